@@ -1,7 +1,7 @@
 -- Laws of sums.
 use mathlib.Core.Path.{_≡_, refl, sym, ap, subst, _∙_}
 use mathlib.Core.Bool.{Bool, true, false, cond}
-use mathlib.Core.List.{List, [], _∷_}
+use mathlib.Core.List.{List, [], _∷_, _++_}
 use mathlib.Core.Logic.{⊎-elim}
 use Prim.Native.Nat.{ℕ, zero, suc, _+_, _≤_, _<_}
 use native.Mathlib.Omega.{arith}
@@ -109,6 +109,10 @@ total-add (x ∷ xs) f g = omega (arith, total-add xs f g)
 pub total-zero : {X : Type 0} (xs : List X) → total xs (λ _. 0) ≡ 0
 total-zero [] = refl
 total-zero (x ∷ xs) = omega (arith, total-zero xs)
+
+pub total-append : {X : Type 0} (xs ys : List X) (f : X → ℕ) → total (xs ++ ys) f ≡ total xs f + total ys f
+total-append [] ys f = omega arith
+total-append (x ∷ xs) ys f = omega (arith, total-append xs ys f)
 
 -- a list of sums is a sum of lists
 pub total-swap : {X : Type 0} (xs : List X) (m : ℕ) (f : X → ℕ → ℕ) → total xs (λ x. sum m (λ k. f x k)) ≡ sum m (λ k. total xs (λ x. f x k))

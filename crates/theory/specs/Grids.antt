@@ -19,9 +19,13 @@ Heights = ℕ → ℕ
 abbrev pub gap : ℕ → ℕ → ℕ
 gap a b = (a - b) + (b - a)
 
--- the prices of all heights, plus each tie's weight times the absolute difference of the heights at its ends
+-- what a tie costs: its weight times the absolute difference of the heights at its ends
+abbrev pub tie-cost : {X : Type 0} → Graph X → Heights → X → ℕ
+tie-cost g h x = g .weight x * gap (h (g .near x)) (h (g .far x))
+
+-- the prices of all heights, plus what all ties cost
 unfoldable pub energy : {X : Type 0} → Problem X → Heights → ℕ
-energy p h = let g = p .graph in sum (g .cells) (λ u. p .price u (h u)) + total (g .ties) (λ x. g .weight x * gap (h (g .near x)) (h (g .far x)))
+energy p h = sum (p .graph .cells) (λ u. p .price u (h u)) + total (p .graph .ties) (tie-cost (p .graph) h)
 
 -- a grid has heights from 0 to top
 abbrev pub Grid : {X : Type 0} → Problem X → Heights → Type 0

@@ -1,0 +1,20 @@
+// The bounds of the product, and the refusals of its calls.
+
+pub mod refusal;
+
+pub use refusal::Refusal;
+
+// The most rows a tile may have.
+pub const MAX_ROWS: usize = 64;
+
+// The most columns a tile may have.
+pub const MAX_COLUMNS: usize = 64;
+
+// The greatest height a tile may have, and the greatest level a price rule may be made for.
+pub const MAX_TOP: u16 = 1023;
+
+// The greatest trust class of a reading.
+pub const MAX_CLASS: u8 = 15;
+
+// The greatest weight of a tie between two neighbouring cells.
+pub const MAX_TIE: u16 = 10_000;

@@ -1,0 +1,5 @@
+pub mod Layouts
+pub mod Choices
+pub mod Rates
+pub mod Names
+pub mod Jobs

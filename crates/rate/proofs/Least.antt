@@ -1,11 +1,9 @@
 -- The first least number of one number, and of one more.
-use mathlib.Core.Path.{_≡_}
 use mathlib.Core.List.{List}
-use mathlib.Core.Logic.{⊎-elim}
 use Prim.Native.Nat.{ℕ, _+_, _≤_, _<_}
 use native.Mathlib.Omega.{arith}
 use lib.ListN.{getD}
-use Rattle.std.proofs.shelf.Tests.{cases-lt, cond-both, ltb-true, ltb-false}
+use Rattle.std.proofs.shelf.Tests.{cond-both, ltb-true, ltb-false}
 use borrow.Author.Count.{below-more}
 use lib.Dec.{ltb}
 use Rattle.rate.specs.Choices.{lesser-place, First-least}

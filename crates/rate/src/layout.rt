@@ -1,6 +1,5 @@
 // A tile laid out from readings, with one class for all cells and one weight for all ties.
 ghost use mathlib.Core.Path.{_≡_};
-ghost use lib.ListN.{getD};
 ghost use Rattle.rate.specs.Layouts.{even-tie, fresh-record, Lays-out};
 use limits::Refusal;
 use tile::Cell;

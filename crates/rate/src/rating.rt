@@ -1,5 +1,5 @@
 // What candidate grids cost under a price rule, and which is the cheapest.
-ghost use Prim.Native.Nat.{ℕ, _<_};
+ghost use Prim.Native.Nat.{_<_};
 ghost use mathlib.Core.Path.{_≡_};
 ghost use lib.ListN.{length};
 ghost use Rattle.rate.specs.Choices.{lesser-place, Picks-least};

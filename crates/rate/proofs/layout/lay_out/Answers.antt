@@ -1,7 +1,5 @@
-use Prim.Native.Nat.{_≤_}
 use mathlib.Core.Path.{_≡_, subst}
 use native.Mathlib.Omega.{arith}
-use borrow.Author.Needs.{needs}
 use Rattle.tile.specs.Shapes.{cells}
 use Rattle.rate.specs.Layouts.{Laid}
 use Rattle.rate.proofs.Lays.{laid-none, laid-more}

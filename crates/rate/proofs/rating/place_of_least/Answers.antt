@@ -1,5 +1,4 @@
 use mathlib.Core.Path.{sym, subst}
-use native.Mathlib.Omega.{arith}
 use Rattle.rate.specs.Choices.{First-least}
 use Rattle.rate.proofs.Least.{least-one, least-more}
 use Rattle.rate.proofs.rating.place_of_least.Needs as need

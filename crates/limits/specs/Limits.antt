@@ -32,3 +32,7 @@ most-price = 130000000
 -- steps of a price lie from minus this to this
 abbrev pub most-step : ℕ
 most-step = 250000
+
+-- charges lie from minus this to this
+abbrev pub most-charge : ℕ
+most-charge = 300000

@@ -7,6 +7,9 @@ pub use refusal::Refusal;
 // The most rows a tile may have.
 pub const MAX_ROWS: usize = 64;
 
+// The most rows that a cut serves: four tiles, one below another.
+pub const MAX_STRIP_ROWS: usize = 256;
+
 // The most columns a tile may have.
 pub const MAX_COLUMNS: usize = 64;
 
@@ -18,3 +21,6 @@ pub const MAX_CLASS: u8 = 15;
 
 // The greatest weight of a tie between two neighbouring cells.
 pub const MAX_TIE: u16 = 10_000;
+
+// Charges lie from minus this to this.
+pub const MAX_CHARGE: u32 = 300_000;

@@ -1,6 +1,6 @@
 // The record of one cell.
 ghost use mathlib.Core.Path.{_≡_};
-ghost use Rattle.tile.specs.Records.{stored-tie};
+ghost use Rattle.tile.specs.Records.{stored-tie, stored-flow};
 use crate::side::Side;
 
 // The host owns the records of a tile, row by row, and may write anything into them.
@@ -38,6 +38,16 @@ impl Cell {
         match side {
             Side::Rightward => self.right,
             Side::Downward => self.down,
+        }
+    }
+
+    // The flow over that tie, away from the cell.
+    pub fn flow(&self, side: Side) -> i32
+        ensures { λ r. ⌜ r ≡ stored-flow (now (self .entry)) side ⌝ }
+    {
+        match side {
+            Side::Rightward => self.right_flow,
+            Side::Downward => self.down_flow,
         }
     }
 }

@@ -1,0 +1,4 @@
+pub mod Ranks
+pub mod Searches
+pub mod Climbs
+pub mod Relabels

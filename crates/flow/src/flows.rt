@@ -190,6 +190,8 @@ fn push(tile: &mut [Cell], columns: usize, u: usize, toward: Direction, f: i32)
 pub fn lesser(a: i32, b: i32) -> i32
     ensures under { λ r. ⌜ r ≤ℤ a ⌝ ∗ ⌜ r ≤ℤ b ⌝ }
     ensures some { λ r. ⌜ (pos 0 <ℤ a → pos 0 <ℤ b → pos 0 <ℤ r) ⌝ }
+    ensures first { λ r. ⌜ (a ≤ℤ b → r ≡ a) ⌝ }
+    ensures second { λ r. ⌜ (b ≤ℤ a → r ≡ b) ⌝ }
 {
     if a < b { a } else { b }
 }

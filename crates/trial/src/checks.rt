@@ -14,7 +14,7 @@ use tile::Shape;
 use tile::Side;
 
 // Has the cell a live tie on the side?
-pub fn is_live(shape: Shape, tile: &[Cell], at: usize, side: Side) -> bool
+pub(crate) fn is_live(shape: Shape, tile: &[Cell], at: usize, side: Side) -> bool
     requires whole { ⌜ cells shape ≤ length (now tile) ⌝ }
     requires inside { ⌜ at < cells shape ⌝ }
     ensures { λ r. ⌜ r ≡ is-live shape (now (tile .entry)) at side ⌝ }

@@ -8,7 +8,7 @@ pub struct Random {
 
 impl Random {
     // The next number below n.
-    pub fn below(&mut self, n: u64) -> u64
+    pub(crate) fn below(&mut self, n: u64) -> u64
         requires { ⌜ 0 < n ⌝ }
         ensures { λ r. ⌜ r < n ⌝ }
     {
@@ -16,11 +16,5 @@ impl Random {
             .wrapping_mul(6_364_136_223_846_793_005)
             .wrapping_add(1_442_695_040_888_963_407);
         (self.state >> 33) % n
-    }
-
-    // The next number from -most to most.
-    pub fn around(&mut self, most: u16) -> i32 {
-        let most = u64::from(most);
-        self.below(2 * most + 1) as i32 - most as i32
     }
 }

@@ -1,7 +1,11 @@
 // What a group of tiles comes to.
 ghost use Prim.Native.Nat.{_≤_, _<_};
+ghost use mathlib.Core.Path.{_≡_};
 ghost use lib.ListN.{length};
+ghost use Rattle.std.specs.Orderings.{Decides};
 ghost use Rattle.tile.specs.Shapes.{cells};
+ghost use Rattle.tile.specs.Tiles.{cell};
+ghost use Rattle.trial.specs.Marks.{Same-marks};
 use crate::checks::is_live;
 use tile::Cell;
 use tile::Shape;
@@ -17,14 +21,27 @@ pub struct Tally {
     pub check: u64,
 }
 
+// The mark of one cell.
+fn mark_at(tile: &[Cell], at: usize) -> u8
+    requires { ⌜ at < length (now tile) ⌝ }
+    ensures { λ r. ⌜ r ≡ cell (now (tile .entry)) at .mark ⌝ }
+{
+    tile[at].mark
+}
+
 // Do two tiles have the same marks?
-pub fn same_marks(first: &[Cell], second: &[Cell]) -> bool {
-    for (a, b) in first.iter().zip(second.iter()) {
-        if a.mark != b.mark {
+pub fn same_marks(first: &[Cell], second: &[Cell]) -> bool
+    ensures { λ r. ⌜ Decides r (Same-marks (now (first .entry)) (now (second .entry))) ⌝ }
+{
+    if first.len() != second.len() {
+        return false;
+    }
+    for at in 0..first.len() {
+        if mark_at(first, at) != mark_at(second, at) {
             return false;
         }
     }
-    first.len() == second.len()
+    true
 }
 
 // What the tie on a side adds to the cost of the marked set.
@@ -75,7 +92,7 @@ impl Tally {
     }
 
     // Adds a tile that was cut.
-    pub fn add(&mut self, shape: Shape, tile: &[Cell]) {
+    pub(crate) fn add(&mut self, shape: Shape, tile: &[Cell]) {
         if tile.len() < shape.cells() {
             return;
         }

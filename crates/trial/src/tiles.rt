@@ -83,7 +83,7 @@ fn stir(random: &mut Random, shape: Shape, tile: &mut [Cell], at: usize)
 }
 
 // Fills the records of a tile.
-pub fn fill(random: &mut Random, shape: Shape, tile: &mut [Cell], sizes: Sizes) {
+pub(crate) fn fill(random: &mut Random, shape: Shape, tile: &mut [Cell], sizes: Sizes) {
     if tile.len() < shape.cells() {
         return;
     }

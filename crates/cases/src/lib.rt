@@ -1,4 +1,6 @@
 // Small tiles worked out by hand, as one theorem on a contract, and run through the calls.
+#![tactic(auto)]
+
 ghost use Rattle.cases.specs.Worked.{WorkedTilesAreRight};
 
 #[cfg(test)]

@@ -1,5 +1,5 @@
 -- The cells that have a rank are those that residual arcs reach.
-use Rattle.std.proofs.Common.{◌≡◌, ℕ, zero, suc, ◌+◌, ◌-◌, ◌<◌, ◌≤◌, ◌⊎◌, length, ℤ, pos, ◌<ℤ◌, sym, subst, ⊎_elim, arith}
+use Rattle.std.proofs.Common.{◌≡◌, ℕ, zero, suc, ◌+◌, ◌<◌, ◌≤◌, length, ℤ, pos, ◌<ℤ◌, sym, subst, ⊎_elim, arith}
 use Rattle.std.proofs.lemmas.Bool.{cases_lt}
 use Rattle.tile.specs.Tiles.{Tile}
 use Rattle.flow.specs.Sides.{InDeficit, SameFlows, Reach, starts, goes, Cut}

@@ -1,4 +1,5 @@
 // The two cut makers.
+#![tactic(auto)]
 
 mod augmenting_paths;
 mod climb;

@@ -1,4 +1,5 @@
 // The calls on a tile, and the law that every run of them keeps.
+#![tactic(auto)]
 
 pub mod answers;
 pub mod states;

@@ -1,4 +1,5 @@
 // Flows over the ties of a tile: remainders, residual arcs, one push, and what a cut is.
+#![tactic(auto)]
 
 pub mod direction;
 pub mod flows;

@@ -1,4 +1,5 @@
 // The bounds of the product, and the refusals of its calls.
+#![tactic(auto)]
 
 pub mod refusal;
 

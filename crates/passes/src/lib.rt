@@ -1,4 +1,5 @@
 // The passes over the records of a tile: checking, clearing, charging and narrowing. Each goes once over the cells.
+#![tactic(auto)]
 
 pub mod charging;
 pub mod narrowing;

@@ -1,4 +1,5 @@
 // Price rules: what a height costs at a cell, given its reading and the reading's trust class.
+#![tactic(auto)]
 
 pub mod absolute;
 pub mod greatest;

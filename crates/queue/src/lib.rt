@@ -1,3 +1,5 @@
+#![tactic(auto)]
+
 ghost use Rattle.std.specs.Prelude.{◌≡◌, [], length};
 ghost use Rattle.queue.specs.Queue.{waits, capacity, Sound, Enqueued, Dequeued};
 

@@ -1,4 +1,6 @@
 // Rates three candidate grids for a sample tile under the three price rules.
+#![tactic(auto)]
+
 ghost use Rattle.std.specs.Prelude.{◌≡◌};
 ghost use Rattle.rate.specs.Names.{candidate_name};
 

@@ -1,4 +1,5 @@
 // Solving a tile by the calls of the filter, from their contracts alone.
+#![tactic(auto)]
 
 pub mod one_cell;
 pub mod refusing;

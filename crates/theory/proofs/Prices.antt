@@ -1,6 +1,6 @@
 -- Costs in natural numbers: a cell is paid for inside the set and outside it, a tie in both directions.
 -- Charges become such prices, a flow shifts them, and the cost of every set changes by the same number.
-use Rattle.std.proofs.Common.{◌≡◌, ℕ, ◌+◌, ◌-◌, ◌<◌, ◌≤◌, Bool, true, false, cond, ◌&&◌, ◌||◌, ℤ, pos, refl, ap, arith}
+use Rattle.std.proofs.Common.{◌≡◌, ℕ, ◌+◌, ◌<◌, ◌≤◌, Bool, true, false, cond, ◌&&◌, ◌||◌, ℤ, pos, refl, ap, arith}
 use borrow.Author.Differences.{up, down, ints}
 use Rattle.std.specs.List.{AllByRecursion as All}
 use Rattle.std.proofs.ByRecursion.{All-weaker}

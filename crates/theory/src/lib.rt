@@ -1,5 +1,7 @@
 // The mathematics of the filter, as theorems on contracts: a function here computes nothing, and its
 // contract holds for graphs whose ties are told apart by values of any type `T`.
+#![tactic(auto)]
+
 ghost use Rattle.theory.specs.Brackets.{HalvingFindsTheUpperHalf};
 ghost use Rattle.theory.specs.Flows.{CertifiedMarksAreTheSmallestCheapestSet};
 ghost use Rattle.theory.specs.Instance.{CertificateCanBeMet};

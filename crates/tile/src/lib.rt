@@ -1,4 +1,5 @@
 // The records of a tile, its shape and ties, brackets of heights, and the energy of a grid of heights.
+#![tactic(auto)]
 
 pub mod bracket;
 pub mod cell;

@@ -1,4 +1,6 @@
 // Runs both cut makers on the same tiles, from all kinds of starts, and prints what they come to.
+#![tactic(auto)]
+
 mod both;
 mod checks;
 mod random;

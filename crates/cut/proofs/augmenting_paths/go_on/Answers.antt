@@ -12,18 +12,18 @@ rest_inside n s xs ys e a = let b : All (λ (x : Step). x.cell < n) (s ∷ ys) =
 pub loop-init : goal.loop-init
 loop-init c = (eased_self _ _ c.requires.sound, c.requires.well, c.requires.inside)
 
-pub push-path-requires : goal.push-path-requires
-push-path-requires c =
+pub push_path-requires : goal.push_path-requires
+push_path-requires c =
     let inv = c.loop.invariant in
     let d = c.in-Some.ensures in
     let i = rest_inside (length c.args.tile.now) c.in-Some.field-0 (waits c.loop.queue) (waits c.dequeue.new.self) d.first inv.2 in
     record { place = omega (arith, inv.0.still.long, i.0); sound = inv.0.sound }
 
-pub visit-all-requires : goal.visit-all-requires
-visit-all-requires c =
+pub visit_all-requires : goal.visit_all-requires
+visit_all-requires c =
     let inv = c.loop.invariant in
     let d = c.in-Some.ensures in
-    let e = c.push-path.ensures.eased in
+    let e = c.push_path.ensures.eased in
     let i = rest_inside (length c.args.tile.now) c.in-Some.field-0 (waits c.loop.queue) (waits c.dequeue.new.self) d.first inv.2 in
     record { place = omega (arith, inv.0.still.long, e.still.long, i.0); sound = e.sound; well = d.sound }
 
@@ -31,11 +31,11 @@ pub loop-preserved : goal.loop-preserved
 loop-preserved c =
     let inv = c.loop.invariant in
     let d = c.in-Some.ensures in
-    let e = eased_trans _ _ _ _ inv.0 c.push-path.ensures.eased in
-    let long : length c.push-path.new.tile ≡ length c.args.tile.now = e.still.long in
+    let e = eased_trans _ _ _ _ inv.0 c.push_path.ensures.eased in
+    let long : length c.push_path.new.tile ≡ length c.args.tile.now = e.still.long in
     let i = rest_inside (length c.args.tile.now) c.in-Some.field-0 (waits c.loop.queue) (waits c.dequeue.new.self) d.first inv.2 in
     let j = subst (λ (n : ℕ). All (λ (x : Step). x.cell < n) (waits c.dequeue.new.self)) (sym long) i.1 in (
-      eased_trans _ _ _ _ e (eased_level _ _ _ c.visit-all.ensures.level e.sound),
-      c.visit-all.ensures.well,
-      subst (λ (n : ℕ). All (λ (x : Step). x.cell < n) (waits c.visit-all.new.queue)) long (c.visit-all.ensures.inside j),
+      eased_trans _ _ _ _ e (eased_level _ _ _ c.visit_all.ensures.level e.sound),
+      c.visit_all.ensures.well,
+      subst (λ (n : ℕ). All (λ (x : Step). x.cell < n) (waits c.visit_all.new.queue)) long (c.visit_all.ensures.inside j),
     )

@@ -16,11 +16,11 @@ use Rattle.cut.proofs.augmenting_paths.seek.Goals as goal
 pub loop-cell-init : goal.loop-cell-init
 loop-cell-init c = (level_self _, c.requires.sound, c.requires.started.search, c.requires.started.rooms, c.requires.started.backs, λ x p. inr (c.requires.started.roots x p), c.requires.well)
 
-pub returns-in-default : goal.returns-in-default
-returns-in-default c =
+pub returns-in_default : goal.returns-in_default
+returns-in_default c =
     let inv = c.loop-cell.invariant in
-    let d = c.in-default.ensures in
-    let q : spots (λ (s : Step). s.cell) c.loop-cell.queue ≡ [] = ap (map (λ (s : Step). s.cell)) c.in-default.ensures.first in
+    let d = c.in_default.ensures in
+    let q : spots (λ (s : Step). s.cell) c.loop-cell.queue ≡ [] = ap (map (λ (s : Step). s.cell)) c.in_default.ensures.first in
     record {
       level = inv.0;
       sought = (
@@ -52,15 +52,15 @@ loop-cell-smaller c =
     let inv = c.loop-cell.invariant in
     let first = c.in-Some.ensures.first in
     let k = seek_looks (λ (s : Step). s.cell) (λ (s : Step). s.side) c.args.columns c.loop-cell.tile c.loop-cell.queue c.dequeue.new.self c.in-Some.field-0 inv.2 inv.3 inv.4 first c.in-Some.ensures.room in
-    load_pop (λ (s : Step). s.cell) (λ (s : Step). s.side) c.args.columns c.loop-cell.tile c.visit-all.new.tile c.loop-cell.queue c.dequeue.new.self c.visit-all.new.queue c.in-Some.field-0 first (c.visit-all.ensures.search k)
+    load_pop (λ (s : Step). s.cell) (λ (s : Step). s.side) c.args.columns c.loop-cell.tile c.visit_all.new.tile c.loop-cell.queue c.dequeue.new.self c.visit_all.new.queue c.in-Some.field-0 first (c.visit_all.ensures.search k)
 
 pub loop-cell-preserved : goal.loop-cell-preserved
 loop-cell-preserved c =
     let inv = c.loop-cell.invariant in
     let first = c.in-Some.ensures.first in
     let k = seek_looks (λ (s : Step). s.cell) (λ (s : Step). s.side) c.args.columns c.loop-cell.tile c.loop-cell.queue c.dequeue.new.self c.in-Some.field-0 inv.2 inv.3 inv.4 first c.in-Some.ensures.room in
-    let v = c.visit-all.ensures.search k in
-    let lv = c.visit-all.ensures.level in
+    let v = c.visit_all.ensures.search k in
+    let lv = c.visit_all.ensures.level in
     let b = c.remainder.ensures.few in
     let no' : InSurplus c.loop-cell.tile c.args.columns c.in-Some.field-0.cell → ⊥ = λ sp.
     let q : pos 0 <ℤ c.remainder.result = subst (λ (z : ℤ). pos 0 <ℤ z) (sym c.remainder.ensures.value) sp in
@@ -68,14 +68,14 @@ loop-cell-preserved c =
       level_trans _ _ _ inv.0 lv,
       sound_level _ _ _ lv inv.1,
       v.keeps,
-      omega (arith, lv.long, c.visit-all.ensures.rooms, k.rooms),
+      omega (arith, lv.long, c.visit_all.ensures.rooms, k.rooms),
       v.backs,
-      calm_after (λ (s : Step). s.cell) (λ (s : Step). s.side) c.args.columns c.loop-cell.tile c.visit-all.new.tile c.loop-cell.queue c.dequeue.new.self c.visit-all.new.queue c.in-Some.field-0 inv.5 first no' v,
-      c.visit-all.ensures.well,
+      calm_after (λ (s : Step). s.cell) (λ (s : Step). s.side) c.args.columns c.loop-cell.tile c.visit_all.new.tile c.loop-cell.queue c.dequeue.new.self c.visit_all.new.queue c.in-Some.field-0 inv.5 first no' v,
+      c.visit_all.ensures.well,
     )
 
-pub visit-all-requires : goal.visit-all-requires
-visit-all-requires c =
+pub visit_all-requires : goal.visit_all-requires
+visit_all-requires c =
     let inv = c.loop-cell.invariant in
     let d = c.in-Some.ensures in
     let k = seek_looks (λ (s : Step). s.cell) (λ (s : Step). s.side) c.args.columns c.loop-cell.tile c.loop-cell.queue c.dequeue.new.self c.in-Some.field-0 inv.2 inv.3 inv.4 d.first d.room in

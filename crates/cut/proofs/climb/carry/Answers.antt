@@ -6,10 +6,10 @@ use Rattle.flow.specs.Sides.{room, beside}
 use Rattle.cut.proofs.Climbs.{never_none_at}
 use Rattle.cut.proofs.climb.carry.Goals as goal
 
-pub returns-in-default : goal.returns-in-default
-returns-in-default c a =
+pub returns-in_default : goal.returns-in_default
+returns-in_default c a =
     let inv = c.loop-h.invariant in
-    absurd (never_none_at c.args.columns c.args.tile.now c.loop-h.v _ inv.0 inv.1 inv.2 a c.in-default.ensures)
+    absurd (never_none_at c.args.columns c.args.tile.now c.loop-h.v _ inv.0 inv.1 inv.2 a c.in_default.ensures)
 
 pub returns-then-r-lt0 : goal.returns-then-r-lt0
 returns-then-r-lt0 c a =
@@ -18,8 +18,8 @@ returns-then-r-lt0 c a =
     let hi = c.in-Some.ensures.0 in
     let o1 = subst (λ (x : Direction). pos 0 <ℤ room c.args.tile.now c.args.columns x (beside c.args.columns c.in-Some.h c.loop-h.v)) (sym c.opposite.ensures) hi.roomy in
     let o2 = subst (λ (x : ℕ). pos 0 <ℤ room c.args.tile.now c.args.columns c.opposite.result x) (sym c.from-u.ensures.value) o1 in
-    let o3 : pos 0 <ℤ c.room-over.result = subst (λ (z : ℤ). pos 0 <ℤ z) (sym c.room-over.ensures.value) o2 in
-    let b = c.room-over.ensures.few in
+    let o3 : pos 0 <ℤ c.room_over.result = subst (λ (z : ℤ). pos 0 <ℤ z) (sym c.room_over.ensures.value) o2 in
+    let b = c.room_over.ensures.few in
     let b' = c.remainder-r.ensures.few in
     let kf = inv.4 in
     let lf : SFits w32 c.lesser-f.result = search rules in
@@ -36,8 +36,8 @@ loop-h-preserved c =
     let hi = c.in-Some.ensures.0 in
     let o1 = subst (λ (x : Direction). pos 0 <ℤ room c.args.tile.now c.args.columns x (beside c.args.columns c.in-Some.h c.loop-h.v)) (sym c.opposite.ensures) hi.roomy in
     let o2 = subst (λ (x : ℕ). pos 0 <ℤ room c.args.tile.now c.args.columns c.opposite.result x) (sym c.from-u.ensures.value) o1 in
-    let o3 : pos 0 <ℤ c.room-over.result = subst (λ (z : ℤ). pos 0 <ℤ z) (sym c.room-over.ensures.value) o2 in
-    let b = c.room-over.ensures.few in
+    let o3 : pos 0 <ℤ c.room_over.result = subst (λ (z : ℤ). pos 0 <ℤ z) (sym c.room_over.ensures.value) o2 in
+    let b = c.room_over.ensures.few in
     let b' = c.remainder-r.ensures.few in
     let kf = inv.4 in
     let lf : SFits w32 c.lesser-f.result = search rules in

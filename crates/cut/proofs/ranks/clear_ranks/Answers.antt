@@ -13,7 +13,7 @@ loop-u-init c = (level_self _, λ b l. absurd (omega arith))
 
 pub loop-u-preserved : goal.loop-u-preserved
 loop-u-preserved c =
-    let e = c.put-rank.ensures in
+    let e = c.put_rank.ensures in
     let t = c.loop-u.tile in
     let i = c.loop-u.u in
     rw e (

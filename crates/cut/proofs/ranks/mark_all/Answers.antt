@@ -23,13 +23,13 @@ loop-u-preserved c =
     let t : Tile = c.loop-u.tile in
     let e : Tile = c.args.tile.now in
     let i : ℕ = c.loop-u.u in
-    let m : ℕ = c.mark-for-mark.result in
+    let m : ℕ = c.mark_for-mark.result in
     let inv = c.loop-u.invariant in
     let l : i < length t = omega arith in
     let same = inv.1 i in
-    let one : 0 < rank_of e i → m ≡ 1 = λ p. c.mark-for-mark.ensures ∙ ap (λ (x : Bool). cond x 1 0) (lt-ltb 0 (rank_of t i) (omega (arith, same, p))) in
-    let none : rank_of e i ≡ 0 → m ≡ 0 = λ p. c.mark-for-mark.ensures ∙ ap (λ (x : Bool). cond x 1 0) (le-ltb 0 (rank_of t i) (omega (arith, same, p))) in
-    rw c.put-mark.ensures (
+    let one : 0 < rank_of e i → m ≡ 1 = λ p. c.mark_for-mark.ensures ∙ ap (λ (x : Bool). cond x 1 0) (lt-ltb 0 (rank_of t i) (omega (arith, same, p))) in
+    let none : rank_of e i ≡ 0 → m ≡ 0 = λ p. c.mark_for-mark.ensures ∙ ap (λ (x : Bool). cond x 1 0) (le-ltb 0 (rank_of t i) (omega (arith, same, p))) in
+    rw c.put_mark.ensures (
       level_trans _ _ _ inv.0 (level_marked t i m),
       (λ b. set_field (λ (x : Cell). x.rank) t i (with_mark m (cell t i)) refl b ∙ inv.1 b),
       mark_more t i m l (λ b. 0 < rank_of e b) 1 inv.2 one,

@@ -11,9 +11,9 @@ abbrev pub invariant-loop-u : goal.invariant-loop-u
 invariant-loop-u g l =
     SameFlows l.initial.tile l.tile
     × Admissible l.columns l.tile
-    × Searching l.columns l.tile (spots g.E-as-Entry.spot l.queue) l.u
+    × Searching l.columns l.tile (spots g.E.Entry.spot l.queue) l.u
     × ((b : ℕ) → l.u ≤ b → rank_of l.tile b ≡ 0)
     × (capacity l.queue ≡ capacity l.initial.queue)
-    × All (λ s. g.E-as-Entry.came s ≡ None) (waits l.queue)
+    × All (λ s. g.E.Entry.came s ≡ None) (waits l.queue)
     × ((b : ℕ) → 0 < rank_of l.tile b → InDeficit l.tile l.columns b)
     × Sound l.queue

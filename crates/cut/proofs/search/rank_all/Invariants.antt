@@ -9,10 +9,10 @@ abbrev pub invariant-loop-entry : goal.invariant-loop-entry
 invariant-loop-entry g l =
     SameFlows l.initial.tile l.tile
     × Admissible l.columns l.tile
-    × Searching l.columns l.tile (spots g.E-as-Entry.spot l.queue) (length l.tile)
+    × Searching l.columns l.tile (spots g.E.Entry.spot l.queue) (length l.tile)
     × (length l.tile ≤ capacity l.queue)
-    × All (Backed g.E-as-Entry.spot g.E-as-Entry.came l.columns l.tile) (waits l.queue)
+    × All (Backed g.E.Entry.spot g.E.Entry.came l.columns l.tile) (waits l.queue)
     × Sound l.queue
 
 abbrev pub decreases-loop-entry : goal.decreases-loop-entry
-decreases-loop-entry g l = load l.tile (spots g.E-as-Entry.spot l.queue)
+decreases-loop-entry g l = load l.tile (spots g.E.Entry.spot l.queue)

@@ -5,11 +5,11 @@ use Rattle.cut.proofs.search.start_search.Goals as goal
 
 pub begin-requires : goal.begin-requires
 begin-requires g c =
-    let lv = c.clear-ranks.ensures.level in
+    let lv = c.clear_ranks.ensures.level in
     let long = lv.long in
     record {
       sound = sound_level _ _ _ lv c.requires.sound;
-      none = c.clear-ranks.ensures.none;
+      none = c.clear_ranks.ensures.none;
       idle = c.requires.idle;
       rooms = omega (arith, c.requires.rooms);
       well = c.requires.well;
@@ -17,7 +17,7 @@ begin-requires g c =
 
 pub returns : goal.returns
 returns g c = record {
-  level = level_trans _ _ _ c.clear-ranks.ensures.level c.begin.ensures.level;
+  level = level_trans _ _ _ c.clear_ranks.ensures.level c.begin.ensures.level;
   well = c.begin.ensures.well;
   started = c.begin.ensures.started;
 }

@@ -21,8 +21,8 @@ visit-requires-4 g c =
 
 pub returns : goal.returns
 returns g c =
-    let spot = g.E-as-Entry.spot in
-    let came = g.E-as-Entry.came in
+    let spot = g.E.Entry.spot in
+    let came = g.E.Entry.came in
     let l1 = c.visit.ensures.level in
     let l2 = level_trans _ _ _ l1 c.visit-2.ensures.level in
     let l3 = level_trans _ _ _ l2 c.visit-3.ensures.level in
@@ -32,9 +32,9 @@ returns g c =
       well = c.visit-4.ensures.well;
       inside = λ a0.
           let a1 = c.visit.ensures.inside a0 in
-          let a2 = inside_on g.E-as-Entry.spot g.E-as-Entry.came c.args.tile.now c.visit.new.tile c.visit.new.queue c.visit-2.new.queue l1 c.visit-2.ensures.inside a1 in
-          let a3 = inside_on g.E-as-Entry.spot g.E-as-Entry.came c.args.tile.now c.visit-2.new.tile c.visit-2.new.queue c.visit-3.new.queue l2 c.visit-3.ensures.inside a2 in
-          inside_on g.E-as-Entry.spot g.E-as-Entry.came c.args.tile.now c.visit-3.new.tile c.visit-3.new.queue c.visit-4.new.queue l3 c.visit-4.ensures.inside a3;
+          let a2 = inside_on g.E.Entry.spot g.E.Entry.came c.args.tile.now c.visit.new.tile c.visit.new.queue c.visit-2.new.queue l1 c.visit-2.ensures.inside a1 in
+          let a3 = inside_on g.E.Entry.spot g.E.Entry.came c.args.tile.now c.visit-2.new.tile c.visit-2.new.queue c.visit-3.new.queue l2 c.visit-3.ensures.inside a2 in
+          inside_on g.E.Entry.spot g.E.Entry.came c.args.tile.now c.visit-3.new.tile c.visit-3.new.queue c.visit-4.new.queue l3 c.visit-4.ensures.inside a3;
       search = λ k0.
           let v1 = c.visit.ensures.search k0 in
           let k1 = looks_on spot came _ _ _ _ _ _ _ _ k0 c.visit.ensures.rooms v1 in

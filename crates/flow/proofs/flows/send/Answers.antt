@@ -35,7 +35,7 @@ returns-then-f-le0 c =
     record {
       moved = λ e. absurd (false≢true e);
       none = λ _. refl;
-      sure = λ o s. let p = some c.args.tile.now c.args.columns c.args.toward c.args.u _ _ _ _ _ _ c.from-v.ensures.value c.remainder.ensures.value c.remainder.ensures.few c.room-over-fits.ensures.value c.room-over-fits.ensures.few kf c.ranges.most c.requires.some c.lesser-surplus.ensures.some c.lesser-f.ensures.some o s in absurd (omega (arith, ints));
+      sure = λ o s. let p = some c.args.tile.now c.args.columns c.args.toward c.args.u _ _ _ _ _ _ c.from-v.ensures.value c.remainder.ensures.value c.remainder.ensures.few c.room_over-fits.ensures.value c.room_over-fits.ensures.few kf c.ranges.most c.requires.some c.lesser-surplus.ensures.some c.lesser-f.ensures.some o s in absurd (omega (arith, ints));
       eased = eased_self _ _ c.requires.sound;
     }
 
@@ -45,8 +45,8 @@ returns c =
     let kf : SFits w32 c.lesser-surplus.result = search rules in
     let e : c.push.new.tile ≡ pushed c.args.tile.now c.args.columns c.args.toward c.args.u c.lesser-f.result = c.push.ensures ∙ ap (pushed c.args.tile.now c.args.columns c.args.toward c.args.u) (to_z-of_z w32 _ k) in
     let o : pos 0 <ℤ c.lesser-f.result = omega (arith, ints) in
-    let a = under_remains c.args.tile.now c.args.columns c.args.toward c.args.u _ _ _ _ _ c.args.most c.from-v.ensures.value c.remainder.ensures.value c.remainder.ensures.few c.room-over-fits.ensures.value c.room-over-fits.ensures.few kf c.ranges.most c.lesser-surplus.ensures.under.0 c.lesser-f.ensures.under.0 in
-    let b = under_room c.args.tile.now c.args.columns c.args.toward c.args.u _ _ _ _ _ c.args.most c.from-v.ensures.value c.remainder.ensures.value c.remainder.ensures.few c.room-over-fits.ensures.value c.room-over-fits.ensures.few kf c.ranges.most c.lesser-f.ensures.under.1 in
+    let a = under_remains c.args.tile.now c.args.columns c.args.toward c.args.u _ _ _ _ _ c.args.most c.from-v.ensures.value c.remainder.ensures.value c.remainder.ensures.few c.room_over-fits.ensures.value c.room_over-fits.ensures.few kf c.ranges.most c.lesser-surplus.ensures.under.0 c.lesser-f.ensures.under.0 in
+    let b = under_room c.args.tile.now c.args.columns c.args.toward c.args.u _ _ _ _ _ c.args.most c.from-v.ensures.value c.remainder.ensures.value c.remainder.ensures.few c.room_over-fits.ensures.value c.room_over-fits.ensures.few kf c.ranges.most c.lesser-f.ensures.under.1 in
     record {
       moved = λ _. (c.lesser-f.result, o, b, a, e);
       none = λ q. absurd (true≢false q);

@@ -3,15 +3,15 @@ use Rattle.std.proofs.lemmas.Int.{ints}
 use Rattle.tile.specs.declared.side.Side.TheVariants.{Rightward, Downward}
 use Rattle.flow.proofs.flows.supply.Goals as goal
 
-pub overflow-add-result : goal.overflow-add-result
-overflow-add-result c =
+pub overflow_add-result : goal.overflow_add-result
+overflow_add-result c =
     let b = c.requires.sound.bounded Rightward c.args.u in
     let w = c.requires.sound.weights Rightward c.args.u in
     let q = c.requires.sound.charges c.args.u in
     omega (arith, ints)
 
-pub overflow-add-result-2 : goal.overflow-add-result-2
-overflow-add-result-2 c =
+pub overflow_add-result-2 : goal.overflow_add-result-2
+overflow_add-result-2 c =
     let b = c.requires.sound.bounded Rightward c.args.u in
     let w = c.requires.sound.weights Rightward c.args.u in
     let b' = c.requires.sound.bounded Downward c.args.u in

@@ -7,8 +7,8 @@ use Rattle.passes.specs.Rounds.{half_marked}
 use Rattle.passes.proofs.Rewrites.{remake_step, cell_past}
 use Rattle.passes.proofs.narrowing.narrow.Goals as goal
 
-pub half-marked-requires : goal.half-marked-requires
-half-marked-requires c =
+pub half_marked-requires : goal.half_marked-requires
+half_marked-requires c =
     let here : cell c.loop-at.tile c.loop-at.at ≡ cell c.args.tile.now c.loop-at.at
     = ap (λ z. cell z c.loop-at.at) c.loop-at.invariant ∙ cell_past c.loop-at.at _ c.args.tile.now c.loop-at.at (omega arith) in
     subst (λ (z : Cell). (z.low ≤ most_top) × (z.high ≤ most_top)) (sym here)

@@ -7,4 +7,4 @@ use Rattle.passes.proofs.writing.reset.Goals as goal
 pub loop-at-preserved : goal.loop-at-preserved
 loop-at-preserved c =
     remake_step (reset c.args.shape.top) c.args.tile.now c.loop-at.at c.loop-at.tile _ (omega arith) c.loop-at.invariant
-    (c.reset-cell.ensures ∙ ap (λ n. reset n (cell c.loop-at.tile c.loop-at.at)) c.top.ensures)
+    (c.reset_cell.ensures ∙ ap (λ n. reset n (cell c.loop-at.tile c.loop-at.at)) c.top.ensures)

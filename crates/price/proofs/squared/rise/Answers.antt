@@ -3,10 +3,10 @@ use Rattle.std.proofs.lemmas.Int.{ints}
 use Rattle.price.specs.Kept.{odd_most}
 use Rattle.price.proofs.squared.rise.Goals as goal
 
-pub overflow-cast-result : goal.overflow-cast-result
-overflow-cast-result c = rw (c.small-weight.ensures.value, c.square-rise.ensures) (omega (arith, ints, odd_most c.args.class c.args.distance (omega arith) (omega arith)))
+pub overflow_cast-result : goal.overflow_cast-result
+overflow_cast-result c = rw (c.small_weight.ensures.value, c.square_rise.ensures) (omega (arith, ints, odd_most c.args.class c.args.distance (omega arith) (omega arith)))
 
 pub returns : goal.returns
 returns c =
     let few = odd_most c.args.class c.args.distance (omega arith) (omega arith) in
-    record { value = rw (c.small-weight.ensures.value, c.square-rise.ensures) (omega (arith, ints)); small = few }
+    record { value = rw (c.small_weight.ensures.value, c.square_rise.ensures) (omega (arith, ints)); small = few }

@@ -8,4 +8,4 @@ loop-at-init c = least_one c.args.numbers.now
 
 pub loop-at-preserved : goal.loop-at-preserved
 loop-at-preserved c =
-    subst (FirstLeast c.args.numbers.now _) (sym c.lesser-place-best.ensures) (least_more c.args.numbers.now c.loop-at.at c.loop-at.best c.loop-at.invariant)
+    subst (FirstLeast c.args.numbers.now _) (sym c.lesser_place-best.ensures) (least_more c.args.numbers.now c.loop-at.at c.loop-at.best c.loop-at.invariant)

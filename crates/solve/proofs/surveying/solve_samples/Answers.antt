@@ -6,30 +6,30 @@ use Rattle.solve.proofs.Steps.{broke, same_refusal}
 use Rattle.solve.proofs.Surveys.{not_started, started_and_written, solved_from}
 use Rattle.solve.proofs.surveying.solve_samples.Goals as goal
 
-pub returns-in-err-draft : goal.returns-in-err-draft
-returns-in-err-draft g c =
-    let why = c.in-err-draft.field-0.0 in
-    not_started (g.P.PriceRule.rule c.args.rule.now) c.args.rows c.args.columns c.args.top c.args.samples.now c.args.tile.now (length c.args.entries.now) why c.from-residual.result c.start.new.tile
-    (broke c.from-residual.result why c.from-residual.ensures.1) c.in-err-draft.ensures.does
+pub returns-in_err-draft : goal.returns-in_err-draft
+returns-in_err-draft g c =
+    let why = c.in_err-draft.field-0.0 in
+    not_started (g.P.PriceRule.rule c.args.rule.now) c.args.rows c.args.columns c.args.top c.args.samples.now c.args.tile.now (length c.args.entries.now) why c.from_residual.result c.start.new.tile
+    (broke c.from_residual.result why c.from_residual.ensures.1) c.in_err-draft.ensures.does
 
-pub returns-in-err-draft-2 : goal.returns-in-err-draft-2
-returns-in-err-draft-2 g c =
-    let why = c.in-err-draft-2.field-0.0 in
-    let k = c.in-ok-draft.ensures in
+pub returns-in_err-draft-2 : goal.returns-in_err-draft-2
+returns-in_err-draft-2 g c =
+    let why = c.in_err-draft-2.field-0.0 in
+    let k = c.in_ok-draft.ensures in
     started_and_written (g.P.PriceRule.rule c.args.rule.now) (g.met.P.PriceRule.lawful c.args.rule.now) c.args.rows c.args.columns c.args.top c.args.samples.now c.args.tile.now (length c.args.entries.now)
-    c.in-ok-draft.draft c.start.new.tile (Err why) c.write-samples.new.tile c.from-residual-in-err-draft-2.result c.write-samples.new.tile
-    (omega arith) k.does k.begins c.in-err-draft-2.ensures
-    (λ e z. broke c.from-residual-in-err-draft-2.result why c.from-residual-in-err-draft-2.ensures.1 ∙ same_refusal why e z) (λ z e. not_both (Err why) z why e refl)
+    c.in_ok-draft.draft c.start.new.tile (Err why) c.write_samples.new.tile c.from_residual-in_err-draft-2.result c.write_samples.new.tile
+    (omega arith) k.does k.begins c.in_err-draft-2.ensures
+    (λ e z. broke c.from_residual-in_err-draft-2.result why c.from_residual-in_err-draft-2.ensures.1 ∙ same_refusal why e z) (λ z e. not_both (Err why) z why e refl)
 
 pub returns : goal.returns
 returns g c =
     let rule : Rule = g.P.PriceRule.rule c.args.rule.now in
-    let k = c.in-ok-draft.ensures in
-    let x = c.in-ok-draft-2.draft in
+    let k = c.in_ok-draft.ensures in
+    let x = c.in_ok-draft-2.draft in
     started_and_written rule (g.met.P.PriceRule.lawful c.args.rule.now) c.args.rows c.args.columns c.args.top c.args.samples.now c.args.tile.now (length c.args.entries.now)
-    c.in-ok-draft.draft c.start.new.tile (Ok x) c.write-samples.new.tile c.solve.result c.solve.new.tile
-    (omega arith) k.does k.begins c.in-ok-draft-2.ensures
+    c.in_ok-draft.draft c.start.new.tile (Ok x) c.write_samples.new.tile c.solve.result c.solve.new.tile
+    (omega arith) k.does k.begins c.in_ok-draft-2.ensures
     (λ e z. not_both (Ok x) x e refl z)
     (λ z e s y whole a.
-    let long : cells s ≤ length c.write-samples.new.tile = omega arith in
-    solved_from rule (length c.args.entries.now) x c.write-samples.new.tile c.solve.result c.solve.new.tile c.solve.ensures s y long a)
+    let long : cells s ≤ length c.write_samples.new.tile = omega arith in
+    solved_from rule (length c.args.entries.now) x c.write_samples.new.tile c.solve.result c.solve.new.tile c.solve.ensures s y long a)

@@ -7,25 +7,25 @@ use Rattle.solve.proofs.Steps.{broke}
 use Rattle.solve.proofs.surveying.write_samples.Goals as goal
 
 pub returns-then-samples-cells : goal.returns-then-samples-cells
-returns-then-samples-cells c = few_samples c.args.draft c.args.tile.now c.args.samples.now c.count-cells-cells.result c.count-cells-cells.ensures c.if-samples-cells.true
+returns-then-samples-cells c = few_samples c.args.draft c.args.tile.now c.args.samples.now c.count_cells-cells.result c.count_cells-cells.ensures c.if-samples-cells.true
 
 pub loop-cell-init : goal.loop-cell-init
 loop-cell-init c = none_written c.args.draft c.args.tile.now c.args.samples.now
 
-pub returns-in-err-state : goal.returns-in-err-state
-returns-in-err-state c =
-    let why = c.in-err-state.field-0.0 in
-    subst (λ (a : Result Draft Refusal). WritesSamples c.args.draft c.args.tile.now c.args.samples.now a c.write-sample.new.tile) (sym (broke c.from-residual.result why c.from-residual.ensures.1))
-    (sample_refused c.args.draft c.args.tile.now c.args.samples.now c.count-cells-cells.result c.loop-cell.cell c.loop-cell.state c.loop-cell.tile why c.write-sample.new.tile
-    c.count-cells-cells.ensures c.if-samples-cells.false c.loop-cell.auto.tile c.loop-cell-test.true c.in-err-state.ensures c.loop-cell.invariant)
+pub returns-in_err-state : goal.returns-in_err-state
+returns-in_err-state c =
+    let why = c.in_err-state.field-0.0 in
+    subst (λ (a : Result Draft Refusal). WritesSamples c.args.draft c.args.tile.now c.args.samples.now a c.write_sample.new.tile) (sym (broke c.from_residual.result why c.from_residual.ensures.1))
+    (sample_refused c.args.draft c.args.tile.now c.args.samples.now c.count_cells-cells.result c.loop-cell.cell c.loop-cell.state c.loop-cell.tile why c.write_sample.new.tile
+    c.count_cells-cells.ensures c.if-samples-cells.false c.loop-cell.auto.tile c.loop-cell-test.true c.in_err-state.ensures c.loop-cell.invariant)
 
 pub loop-cell-preserved : goal.loop-cell-preserved
 loop-cell-preserved c =
-    one_written c.args.draft c.args.tile.now c.args.samples.now c.count-cells-cells.result c.loop-cell.cell c.loop-cell.state c.loop-cell.tile c.in-ok-state.state c.write-sample.new.tile
-    c.count-cells-cells.ensures c.if-samples-cells.false c.loop-cell.auto.tile c.loop-cell-test.true c.in-ok-state.ensures c.loop-cell.invariant
+    one_written c.args.draft c.args.tile.now c.args.samples.now c.count_cells-cells.result c.loop-cell.cell c.loop-cell.state c.loop-cell.tile c.in_ok-state.state c.write_sample.new.tile
+    c.count_cells-cells.ensures c.if-samples-cells.false c.loop-cell.auto.tile c.loop-cell-test.true c.in_ok-state.ensures c.loop-cell.invariant
 
 pub returns : goal.returns
 returns c =
-    let end : c.loop-cell.cell ≡ c.count-cells-cells.result = omega arith in
-    all_written c.args.draft c.args.tile.now c.args.samples.now c.count-cells-cells.result c.loop-cell.state c.loop-cell.tile c.count-cells-cells.ensures c.if-samples-cells.false
+    let end : c.loop-cell.cell ≡ c.count_cells-cells.result = omega arith in
+    all_written c.args.draft c.args.tile.now c.args.samples.now c.count_cells-cells.result c.loop-cell.state c.loop-cell.tile c.count_cells-cells.ensures c.if-samples-cells.false
     (subst (λ (i : ℕ). SamplesFar c.args.draft c.args.tile.now c.args.samples.now i c.loop-cell.state c.loop-cell.tile) end c.loop-cell.invariant)

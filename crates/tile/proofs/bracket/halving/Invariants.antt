@@ -3,4 +3,4 @@ use Rattle.tile.specs.Halving.{halving}
 use Rattle.tile.proofs.bracket.halving.Given as goal
 
 abbrev pub invariant-loop-round : goal.invariant-loop-round
-invariant-loop-round l = l.bracket ≡ halving l.-round l.top l.height
+invariant-loop-round l = l.bracket ≡ halving l._round l.top l.height

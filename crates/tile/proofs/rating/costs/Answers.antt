@@ -6,7 +6,7 @@ use Rattle.tile.proofs.rating.costs.Goals as goal
 
 pub loop-at-preserved : goal.loop-at-preserved
 loop-at-preserved g c =
-    (costs_more (g.P.PriceRule.rule c.args.rule.now) c.args.shape (survey c.args.tile.now) (height (g.G.HeightGrid.heights c.args.grid.now)) c.loop-at.at c.loop-at.sum c.cell-cost-sum.result c.loop-at.invariant.0 c.cell-cost-sum.ensures.value, omega arith)
+    (costs_more (g.P.PriceRule.rule c.args.rule.now) c.args.shape (survey c.args.tile.now) (height (g.G.HeightGrid.heights c.args.grid.now)) c.loop-at.at c.loop-at.sum c.cell_cost-sum.result c.loop-at.invariant.0 c.cell_cost-sum.ensures.value, omega arith)
 
 pub returns : goal.returns
 returns g c =

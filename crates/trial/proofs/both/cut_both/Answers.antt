@@ -8,13 +8,13 @@ use Rattle.trial.proofs.both.cut_both.Goals as goal
 
 pub returns : goal.returns
 returns c =
-    let a = c.run-cut.ensures.smallest in
-    let b = c.run-cut-2.ensures.smallest in
+    let a = c.run_cut.ensures.smallest in
+    let b = c.run_cut-2.ensures.smallest in
     record {
       uncut = λ e. absurd (true≢false e);
       alike = λ _ e.
-          smallest_unique (network c.args.shape c.args.first.now) (charges c.args.first.now) (marks c.run-cut.new.tile) (marks c.run-cut-2.new.tile) a
-          (subst (λ (t : Tile). SmallestCheapestSet (network c.args.shape t) (charges t) (marks c.run-cut-2.new.tile)) (sym e) b);
-      by-paths = λ _. a;
-      by-ranks = λ _. b;
+          smallest_unique (network c.args.shape c.args.first.now) (charges c.args.first.now) (marks c.run_cut.new.tile) (marks c.run_cut-2.new.tile) a
+          (subst (λ (t : Tile). SmallestCheapestSet (network c.args.shape t) (charges t) (marks c.run_cut-2.new.tile)) (sym e) b);
+      by_paths = λ _. a;
+      by_ranks = λ _. b;
     }

@@ -15,9 +15,9 @@ side_of s t u d l k = record { tie = k.ties u d l; edge = k.edges u d l; bounded
 cell_of : (s : Shape) (t : Tile) (u : ℕ) → u < cells s → Cuttable s t → CellFits s t u
 cell_of s t u l k = record { charge = k.charges u l; right = side_of s t u Rightward l k; down = side_of s t u Downward l k }
 
-pub returns-then-not-cell-fits : goal.returns-then-not-cell-fits
-returns-then-not-cell-fits c =
-    (λ e. absurd (false≢true e), λ k. sym c.if-not-cell-fits.true ∙ c.cell-fits.ensures.1 (cell_of c.args.shape c.args.tile.now c.loop-at.at (omega arith) k))
+pub returns-then-not-cell_fits : goal.returns-then-not-cell_fits
+returns-then-not-cell_fits c =
+    (λ e. absurd (false≢true e), λ k. sym c.if-not-cell_fits.true ∙ c.cell_fits.ensures.1 (cell_of c.args.shape c.args.tile.now c.loop-at.at (omega arith) k))
 
 pub loop-at-preserved : goal.loop-at-preserved
-loop-at-preserved c = below_more (CellFits c.args.shape c.args.tile.now) c.loop-at.at c.loop-at.invariant (c.cell-fits.ensures.0 c.if-not-cell-fits.false)
+loop-at-preserved c = below_more (CellFits c.args.shape c.args.tile.now) c.loop-at.at c.loop-at.invariant (c.cell_fits.ensures.0 c.if-not-cell_fits.false)

@@ -11,4 +11,4 @@ returns-in-Some c =
 pub returns : goal.returns
 returns c =
     begin_met c.args.self c.args.tile.now _
-    (unrefused (unrefused (λ _. record { rounding = c.no-round-done.result; answers = refl; shape = c.no-round-done.ensures.shape; done = c.no-round-done.ensures.done })) c.in-default.ensures)
+    (unrefused (unrefused (λ _. record { rounding = c.no_round_done.result; answers = refl; shape = c.no_round_done.ensures.shape; done = c.no_round_done.ensures.done })) c.in_default.ensures)

@@ -14,7 +14,7 @@ returns-in-Some c =
 
 pub returns : goal.returns
 returns c =
-    let writes : c.write-reading.new.tile ≡ set c.args.tile.now (place c.args.self.shape c.args.row c.args.column) (with_reading c.args.reading c.args.class (cell c.args.tile.now (place c.args.self.shape c.args.row c.args.column)))
-    = subst (λ (u : ℕ). c.write-reading.new.tile ≡ set c.args.tile.now u (with_reading c.args.reading c.args.class (cell c.args.tile.now u))) c.place.ensures.value c.write-reading.ensures in
+    let writes : c.write_reading.new.tile ≡ set c.args.tile.now (place c.args.self.shape c.args.row c.args.column) (with_reading c.args.reading c.args.class (cell c.args.tile.now (place c.args.self.shape c.args.row c.args.column)))
+    = subst (λ (u : ℕ). c.write_reading.new.tile ≡ set c.args.tile.now u (with_reading c.args.reading c.args.class (cell c.args.tile.now u))) c.place.ensures.value c.write_reading.ensures in
     put_met c.args.self c.args.tile.now c.args.row c.args.column c.args.reading c.args.class _ _
-    (unrefused (unrefused (unrefused (unrefused (λ _. (refl, writes))))) c.in-default.ensures)
+    (unrefused (unrefused (unrefused (unrefused (λ _. (refl, writes))))) c.in_default.ensures)

@@ -14,7 +14,7 @@ returns-in-Some c =
 
 pub returns : goal.returns
 returns c =
-    let writes : c.write-ties.new.tile ≡ set c.args.tile.now (place c.args.self.shape c.args.row c.args.column) (with_ties (weights c.args.right c.args.down) (cell c.args.tile.now (place c.args.self.shape c.args.row c.args.column)))
-    = subst (λ (u : ℕ). c.write-ties.new.tile ≡ set c.args.tile.now u (with_ties (weights c.args.right c.args.down) (cell c.args.tile.now u))) c.place.ensures.value c.write-ties.ensures in
+    let writes : c.write_ties.new.tile ≡ set c.args.tile.now (place c.args.self.shape c.args.row c.args.column) (with_ties (weights c.args.right c.args.down) (cell c.args.tile.now (place c.args.self.shape c.args.row c.args.column)))
+    = subst (λ (u : ℕ). c.write_ties.new.tile ≡ set c.args.tile.now u (with_ties (weights c.args.right c.args.down) (cell c.args.tile.now u))) c.place.ensures.value c.write_ties.ensures in
     tie_met c.args.self c.args.tile.now c.args.row c.args.column (weights c.args.right c.args.down) _ _
-    (unrefused (unrefused (unrefused (unrefused (λ _. (refl, writes))))) c.in-default.ensures)
+    (unrefused (unrefused (unrefused (unrefused (λ _. (refl, writes))))) c.in_default.ensures)

@@ -9,4 +9,4 @@ returns-in-Some c =
 
 pub returns : goal.returns
 returns c =
-    reopen_level_met c.args.self c.args.tile.now _ _ (reset_made c.args.self c.args.self.shape c.args.self.done c.args.tile.now _ _ refl c.in-default.ensures)
+    reopen_level_met c.args.self c.args.tile.now _ _ (reset_made c.args.self c.args.self.shape c.args.self.done c.args.tile.now _ _ refl c.in_default.ensures)

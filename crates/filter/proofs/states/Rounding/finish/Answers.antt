@@ -11,4 +11,4 @@ returns-in-Some c =
 pub returns : goal.returns
 returns c =
     finish_met c.args.self c.args.tile.now _
-    (unrefused (unrefused (unrefused (λ _. record { level = _; answers = refl; shape = refl; done = refl }))) c.in-default.ensures)
+    (unrefused (unrefused (unrefused (λ _. record { level = _; answers = refl; shape = refl; done = refl }))) c.in_default.ensures)

@@ -12,18 +12,18 @@ returns-in-Some g c =
     tt (record { long = refl; same = refl; past = λ u l. refl }) refl
 
 pub halve-requires : goal.halve-requires
-halve-requires g c = ready c.args.self.shape c.args.self.done c.args.tile.now (length c.args.entries.now) (g.P.PriceRule.rule c.args.rule.now).greatest (at_greatest None c.args.self.shape c.args.self.done c.args.tile.now (length c.args.entries.now) c.greatest.result _ c.greatest.ensures c.in-default.ensures)
+halve-requires g c = ready c.args.self.shape c.args.self.done c.args.tile.now (length c.args.entries.now) (g.P.PriceRule.rule c.args.rule.now).greatest (at_greatest None c.args.self.shape c.args.self.done c.args.tile.now (length c.args.entries.now) c.greatest.result _ c.greatest.ensures c.in_default.ensures)
 
-pub one-more-requires : goal.one-more-requires
-one-more-requires g c = record { tall = c.args.self.tall; few = few_left c.args.self.shape c.args.self.done c.args.tile.now (length c.args.entries.now) (g.P.PriceRule.rule c.args.rule.now).greatest (at_greatest None c.args.self.shape c.args.self.done c.args.tile.now (length c.args.entries.now) c.greatest.result _ c.greatest.ensures c.in-default.ensures) }
+pub one_more-requires : goal.one_more-requires
+one_more-requires g c = record { tall = c.args.self.tall; few = few_left c.args.self.shape c.args.self.done c.args.tile.now (length c.args.entries.now) (g.P.PriceRule.rule c.args.rule.now).greatest (at_greatest None c.args.self.shape c.args.self.done c.args.tile.now (length c.args.entries.now) c.greatest.result _ c.greatest.ensures c.in_default.ensures) }
 
 pub returns : goal.returns
 returns g c =
     round_met c.args.entries.now c.halve.new.entries (g.P.PriceRule.rule c.args.rule.now) (g.M.CutMaker.leaves c.args.maker.now) (g.met.M.CutMaker.keeps c.args.maker.now) c.args.self c.args.tile.now (length c.args.entries.now) _ _
-    (unrefused (unrefused (unrefused (unrefused (unrefused (λ _. made_round c.args.self c.one-more.result c.one-more.ensures.shape c.one-more.ensures.state c.one-more.ensures.done c.halve.ensures)))))
-    (at_greatest None c.args.self.shape c.args.self.done c.args.tile.now (length c.args.entries.now) c.greatest.result _ c.greatest.ensures c.in-default.ensures))
+    (unrefused (unrefused (unrefused (unrefused (unrefused (λ _. made_round c.args.self c.one_more.result c.one_more.ensures.shape c.one_more.ensures.state c.one_more.ensures.done c.halve.ensures)))))
+    (at_greatest None c.args.self.shape c.args.self.done c.args.tile.now (length c.args.entries.now) c.greatest.result _ c.greatest.ensures c.in_default.ensures))
     (made_smallest (g.P.PriceRule.rule c.args.rule.now) (g.M.CutMaker.leaves c.args.maker.now) (g.met.M.CutMaker.keeps c.args.maker.now) c.args.self.shape c.args.tile.now c.halve.new.tile c.halve.ensures)
     (made_kept (g.P.PriceRule.rule c.args.rule.now) (g.M.CutMaker.leaves c.args.maker.now) (g.met.M.CutMaker.keeps c.args.maker.now) c.args.self.shape c.args.tile.now c.halve.new.tile
-    (ready c.args.self.shape c.args.self.done c.args.tile.now (length c.args.entries.now) (g.P.PriceRule.rule c.args.rule.now).greatest (at_greatest None c.args.self.shape c.args.self.done c.args.tile.now (length c.args.entries.now) c.greatest.result _ c.greatest.ensures c.in-default.ensures)).fit.whole
+    (ready c.args.self.shape c.args.self.done c.args.tile.now (length c.args.entries.now) (g.P.PriceRule.rule c.args.rule.now).greatest (at_greatest None c.args.self.shape c.args.self.done c.args.tile.now (length c.args.entries.now) c.greatest.result _ c.greatest.ensures c.in_default.ensures)).fit.whole
     c.halve.ensures)
     tt

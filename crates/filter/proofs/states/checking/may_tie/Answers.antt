@@ -5,4 +5,4 @@ use Rattle.filter.proofs.states.checking.may_tie.Goals as goal
 
 pub returns : goal.returns
 returns c =
-    subst (λ (u : ℕ). Decides c.are-ties-sound.result (SoundTies c.args.shape u (weights c.args.right c.args.down))) c.place.ensures.value c.are-ties-sound.ensures
+    subst (λ (u : ℕ). Decides c.are_ties_sound.result (SoundTies c.args.shape u (weights c.args.right c.args.down))) c.place.ensures.value c.are_ties_sound.ensures

@@ -5,9 +5,9 @@ use Rattle.price.specs.Kept.{squared_shape}
 use Rattle.price.proofs.Answered.{answered}
 use Rattle.price.proofs.squared.SquaredPriceRule.step.Goals as goal
 
-pub returns-then-has-step : goal.returns-then-has-step
-returns-then-has-step c =
+pub returns-then-has_step : goal.returns-then-has_step
+returns-then-has_step c =
     let a = c.args in
-    let fits : SFits w32 c.step-at.result = search rules in
+    let fits : SFits w32 c.step_at.result = search rules in
     answered (squared_of a.self.now) a.reading a.class a.height (squared_shape (class_weight a.class))
-    c.step-at.result fits (sym c.has-step.ensures ∙ c.if-has-step.true) c.step-at.ensures.above c.step-at.ensures.below
+    c.step_at.result fits (sym c.has_step.ensures ∙ c.if-has_step.true) c.step_at.ensures.above c.step_at.ensures.below

@@ -1,7 +1,7 @@
 -- Ten worked tiles.
 use Rattle.std.specs.Prelude.{List, [], ◌∷◌}
 use Rattle.std.proofs.Common.{lit≤}
-use Rattle.std.specs.List.{AllByRecursion as All}
+use Rattle.std.specs.List.{AllByRecursion}
 use Rattle.price.specs.Kinds.{absolute, squared, leaning}
 use Rattle.tile.specs.declared.shape.Shape.{Shape}
 use Rattle.cases.specs.Cases.{Case, RightCase}
@@ -49,4 +49,4 @@ worked =
 -- ---- theorem
 
 abbrev pub WorkedTilesAreRight : Type 0
-WorkedTilesAreRight = All RightCase worked
+WorkedTilesAreRight = AllByRecursion RightCase worked

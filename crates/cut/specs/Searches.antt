@@ -1,7 +1,7 @@
 -- The breadth-first search from the deficit cells, which ranks the cells it reaches: deficit cells highest, and one less over
 -- each residual arc. What waits is a list of entries, each with a cell and perhaps the direction back to where it was reached from.
 use Rattle.std.specs.Prelude.{◌≡◌, ℕ, ◌+◌, ◌-◌, ◌<◌, ◌≤◌, ◌⊎◌, List, [], ◌∷◌, map, length, pos, ◌<ℤ◌, Some, Option}
-use Rattle.std.specs.List.{AllByRecursion as All}
+use Rattle.std.specs.List.{AllByRecursion}
 use Rattle.queue.specs.declared.Queue.{Queue}
 use Rattle.queue.specs.Queue.{waits, capacity}
 use Rattle.tile.specs.Tiles.{Tile}
@@ -34,7 +34,7 @@ pub record Searching (c : ℕ) (t : Tile) (q : List ℕ) (seen : ℕ) : Type 0 w
   pub tree : (u : ℕ) → u < length t → 0 < rank_of t u → Grown c t u
   pub deficits : (u : ℕ) → u < seen → InDeficit t c u → 0 < rank_of t u
   pub closed : (u : ℕ) → u < length t → 0 < rank_of t u → Among u q ⊎ Spread c t u
-  pub inside : All (λ x. (x < length t) × (0 < rank_of t x)) q
+  pub inside : AllByRecursion (λ x. (x < length t) × (0 < rank_of t x)) q
   pub deep : (u : ℕ) → u < length t → 0 < rank_of t u → length t < rank_of t u + ranked t
   pub few : length q ≤ ranked t
   pub high : (u : ℕ) → u < length t → rank_of t u ≤ length t
@@ -65,14 +65,14 @@ Backed spot came c t e = BackTo c t (spot e) (came e)
 
 -- every cell that waits is a cell
 abbrev pub AllInside : {X : Type 0} → (X → ℕ) → Tile → Queue X → Type 0
-AllInside spot t q = All (λ e. spot e < length t) (waits q)
+AllInside spot t q = AllByRecursion (λ e. spot e < length t) (waits q)
 
 -- u has been fetched, and the search is to go on from it
 pub record Looks {X : Type 0} (spot : X → ℕ) (came : X → Option Direction) (c u : ℕ) (from : Option Direction) (t : Tile) (q : Queue X) : Type 0 where
   pub search : Searching c t (u ∷ spots spot q) (length t)
   pub rooms : length t ≤ capacity q
   pub back_to : BackTo c t u from
-  pub backs : All (Backed spot came c t) (waits q)
+  pub backs : AllByRecursion (Backed spot came c t) (waits q)
 
 -- the search has gone over one direction out of u
 pub record Visited {X : Type 0} (spot : X → ℕ) (came : X → Option Direction) (c u : ℕ) (h : Direction) (t t' : Tile) (q q' : Queue X) : Type 0 where
@@ -80,7 +80,7 @@ pub record Visited {X : Type 0} (spot : X → ℕ) (came : X → Option Directio
   pub keeps : Searching c t' (u ∷ spots spot q') (length t')
   pub done : pos 0 <ℤ room t' c h u → 0 < rank_of t' (beside c h u)
   pub load_same : load t' (spots spot q') ≤ load t (spots spot q)
-  pub backs : All (Backed spot came c t') (waits q')
+  pub backs : AllByRecursion (Backed spot came c t') (waits q')
   pub olds : (x : ℕ) → Among x (spots spot q) → Among x (spots spot q')
   pub news : (x : ℕ) → 0 < rank_of t' x → (0 < rank_of t x) ⊎ Among x (spots spot q')
 
@@ -89,7 +89,7 @@ pub record Visits {X : Type 0} (spot : X → ℕ) (came : X → Option Direction
   pub grows : Grows t t'
   pub keeps : Searching c t' (spots spot q') (length t')
   pub load_same : load t' (spots spot q') ≤ load t (spots spot q)
-  pub backs : All (Backed spot came c t') (waits q')
+  pub backs : AllByRecursion (Backed spot came c t') (waits q')
   pub olds : (x : ℕ) → Among x (spots spot q) → Among x (spots spot q')
   pub news : (x : ℕ) → 0 < rank_of t' x → (0 < rank_of t x) ⊎ Among x (spots spot q')
 
@@ -97,5 +97,5 @@ pub record Visits {X : Type 0} (spot : X → ℕ) (came : X → Option Direction
 pub record Started {X : Type 0} (spot : X → ℕ) (came : X → Option Direction) (c : ℕ) (t : Tile) (q : Queue X) : Type 0 where
   pub search : Searching c t (spots spot q) (length t)
   pub rooms : length t ≤ capacity q
-  pub backs : All (Backed spot came c t) (waits q)
+  pub backs : AllByRecursion (Backed spot came c t) (waits q)
   pub roots : (x : ℕ) → 0 < rank_of t x → InSurplus t c x → ⊥

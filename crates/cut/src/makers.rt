@@ -1,6 +1,5 @@
 // The two cut makers.
 ghost use Rattle.flow.specs.Points.{FourPoints};
-ghost use Rattle.std.proofs.Common.{rules};
 
 use crate::augmenting_paths::cut_by_paths;
 use crate::entry::Step;
@@ -18,7 +17,7 @@ impl CutMaker for AugmentingPaths {
 
     ghost leaves = { λ _ s before after. FourPoints s before after };
 
-    ghost keeps = { Prim.search rules };
+    ghost keeps = { λ _ _ _ _ points. points };
 
     fn cut(&self, shape: Shape, tile: &mut [Cell], entries: &mut [Step]) {
         let n = shape.cells();
@@ -35,7 +34,7 @@ impl CutMaker for PushRelabel {
 
     ghost leaves = { λ _ s before after. FourPoints s before after };
 
-    ghost keeps = { Prim.search rules };
+    ghost keeps = { λ _ _ _ _ points. points };
 
     fn cut(&self, shape: Shape, tile: &mut [Cell], entries: &mut [u16]) {
         let n = shape.cells();

@@ -15,7 +15,7 @@ use Rattle.filter.specs.declared.answers.Refused.{Refused}
 use Rattle.filter.specs.declared.answers.Rounded.{Rounded}
 use Rattle.filter.specs.Checks.{place}
 use Rattle.filter.specs.Calls.{RoundedBy, StartDoes, PutDoes, TieDoes, BeginDoes, RoundDoes, FinishDoes, ReopenDoes, MarksSmallest, SurveyKept, KeptIfRefused}
-use Rattle.filter.specs.Runs.{Call, Run, Begins, Goes_on, GoesOnUnder, draft, rounding, level, put_at, tied_at, begun, rounded, finished, reopened}
+use Rattle.filter.specs.Runs.{Call, Run, Begins, GoesOn, GoesOnUnder, draft, rounding, level, put_at, tied_at, begun, rounded, finished, reopened}
 use Rattle.filter.specs.Laws.{EveryRunKeepsTheLaw}
 use Rattle.filter.proofs.Keeps.{every_run}
 use Rattle.filter.proofs.Outcomes.{mapped, either}
@@ -55,15 +55,15 @@ start_met rows columns top t answer t' w = record {
         (subst (λ (n : ℕ). StartDoes rows n d.shape.top t (Ok d) t') (sym m.same_columns) (subst (λ (n : ℕ). StartDoes rows columns n t (Ok d) t') (sym m.same_top) o))
 
 pub put_met : (d : Draft) (t : Tile) (row column v q : ℕ) (answer : Result Draft (Refused Draft)) (t' : Tile) → PutDoes d t row column v q answer t' →
-    record { does : PutDoes d t row column v q answer t'; goes_on : Goes_on (draft d) t draft draft (put_at (place d.shape row column) v q) answer t'; law : EveryRunKeepsTheLaw }
+    record { does : PutDoes d t row column v q answer t'; goes_on : GoesOn (draft d) t draft draft (put_at (place d.shape row column) v q) answer t'; law : EveryRunKeepsTheLaw }
 put_met d t row column v q answer t' w = record { does = w; goes_on = λ rule s h r r' run lent. Run.then run lent (Call.put d row column v q answer w); law = every_run }
 
 pub tie_met : (d : Draft) (t : Tile) (row column : ℕ) (k : Side → ℕ) (answer : Result Draft (Refused Draft)) (t' : Tile) → TieDoes d t row column k answer t' →
-    record { does : TieDoes d t row column k answer t'; goes_on : Goes_on (draft d) t draft draft (tied_at (place d.shape row column) k) answer t'; law : EveryRunKeepsTheLaw }
+    record { does : TieDoes d t row column k answer t'; goes_on : GoesOn (draft d) t draft draft (tied_at (place d.shape row column) k) answer t'; law : EveryRunKeepsTheLaw }
 tie_met d t row column k answer t' w = record { does = w; goes_on = λ rule s h r r' run lent. Run.then run lent (Call.tie d row column k answer w); law = every_run }
 
 pub begin_met : (d : Draft) (t : Tile) (answer : Result Rounding (Refused Draft)) → BeginDoes d t answer →
-    record { does : BeginDoes d t answer; goes_on : Goes_on (draft d) t draft rounding begun answer t; law : EveryRunKeepsTheLaw }
+    record { does : BeginDoes d t answer; goes_on : GoesOn (draft d) t draft rounding begun answer t; law : EveryRunKeepsTheLaw }
 begin_met d t answer w = record { does = w; goes_on = λ rule s h r r' run lent. Run.then run lent (Call.begin d answer w); law = every_run }
 
 pub round_met : {W : Type 0} (before after : W) (rule : Rule) (leaves : Shape → Tile → Tile → Type 0) → ((s : Shape) (before after : Tile) → leaves s before after → FourPoints s before after) →
@@ -80,13 +80,13 @@ round_met before after rule leaves keeps r t n answer t' w small kept free = rec
 }
 
 pub finish_met : (r : Rounding) (t : Tile) (answer : Result Level (Refused Rounding)) → FinishDoes r t answer →
-    record { does : FinishDoes r t answer; goes_on : Goes_on (rounding r) t rounding level finished answer t; law : EveryRunKeepsTheLaw }
+    record { does : FinishDoes r t answer; goes_on : GoesOn (rounding r) t rounding level finished answer t; law : EveryRunKeepsTheLaw }
 finish_met r t answer w = record { does = w; goes_on = λ rule s h o o' run lent. Run.then run lent (Call.finish r answer w); law = every_run }
 
 pub reopen_rounding_met : (r : Rounding) (t : Tile) (answer : Result Draft (Refused Rounding)) (t' : Tile) → ReopenDoes r r.shape r.done t answer t' →
-    record { does : ReopenDoes r r.shape r.done t answer t'; goes_on : Goes_on (rounding r) t rounding draft reopened answer t'; law : EveryRunKeepsTheLaw }
+    record { does : ReopenDoes r r.shape r.done t answer t'; goes_on : GoesOn (rounding r) t rounding draft reopened answer t'; law : EveryRunKeepsTheLaw }
 reopen_rounding_met r t answer t' w = record { does = w; goes_on = λ rule s h o o' run lent. Run.then run lent (Call.reopen_rounding r answer w); law = every_run }
 
 pub reopen_level_met : (l : Level) (t : Tile) (answer : Result Draft (Refused Level)) (t' : Tile) → ReopenDoes l l.shape l.done t answer t' →
-    record { does : ReopenDoes l l.shape l.done t answer t'; goes_on : Goes_on (level l) t level draft reopened answer t'; law : EveryRunKeepsTheLaw }
+    record { does : ReopenDoes l l.shape l.done t answer t'; goes_on : GoesOn (level l) t level draft reopened answer t'; law : EveryRunKeepsTheLaw }
 reopen_level_met l t answer t' w = record { does = w; goes_on = λ rule s h o o' run lent. Run.then run lent (Call.reopen_level l answer w); law = every_run }

@@ -121,5 +121,5 @@ GoesOnUnder rule x t back on a answer t' = (s : Shape) (h : History) (r r' : Til
     Run rule s (added a answer ++ h) (next back on answer) r'
 
 -- the same whatever the rule
-abbrev pub Goes_on : {S X : Type 0} → State → Tile → (S → State) → (X → State) → Accepted → Result X (Refused S) → Tile → Type 0
-Goes_on x t back on a answer t' = (rule : Rule) → GoesOnUnder rule x t back on a answer t'
+abbrev pub GoesOn : {S X : Type 0} → State → Tile → (S → State) → (X → State) → Accepted → Result X (Refused S) → Tile → Type 0
+GoesOn x t back on a answer t' = (rule : Rule) → GoesOnUnder rule x t back on a answer t'

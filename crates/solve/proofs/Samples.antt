@@ -17,7 +17,7 @@ use Rattle.filter.specs.declared.states.Draft.{Draft}
 use Rattle.filter.specs.declared.answers.Refused.{Refused}
 use Rattle.filter.specs.Checks.{Checked, refused, passed, Inside, place, PutChecked, TieChecked}
 use Rattle.filter.specs.Calls.{LeavesAll, PutDoes, TieDoes}
-use Rattle.filter.specs.Runs.{put_at, tied_at, History, updated, surveyed, draft, Lent, Run, Goes_on}
+use Rattle.filter.specs.Runs.{put_at, tied_at, History, updated, surveyed, draft, Lent, Run, GoesOn}
 use Rattle.filter.specs.Laws.{EveryRunKeepsTheLaw}
 use Rattle.filter.proofs.Outcomes.{mapped, followed, surely}
 use Rattle.solve.specs.declared.surveying.Sample.{Sample}
@@ -38,7 +38,7 @@ within s u row column at l =
 
 pub puts : EveryRunKeepsTheLaw → (d : Draft) (t : Tile) (u row column : ℕ) (x : Sample) (answer : Result Draft (Refused Draft)) (t' : Tile) → At d.shape u row column →
     PutDoes d t row column x.reading x.class answer t' →
-    Goes_on (draft d) t draft draft (put_at (place d.shape row column) x.reading x.class) answer t' → PutsSample d t u x (plain (λ z. z) answer) t'
+    GoesOn (draft d) t draft draft (put_at (place d.shape row column) x.reading x.class) answer t' → PutsSample d t u x (plain (λ z. z) answer) t'
 puts law d t u row column x answer t' at does on rule lawful s h whole inside run =
     followed (λ _ e z. ap (plain (λ z. z)) z.0) (λ _ a. record { answered = d; answers = ap (plain (λ z. z)) a.0; run = end a.0 })
     (surely (within s u row column here inside) (surely (sound_slice law rule lawful s h (draft d) t run) (surely whole checked)))
@@ -61,7 +61,7 @@ puts law d t u row column x answer t' at does on rule lawful s h whole inside ru
 
 pub ties_up : EveryRunKeepsTheLaw → (d : Draft) (t : Tile) (u row column : ℕ) (x : Sample) (answer : Result Draft (Refused Draft)) (t' : Tile) → At d.shape u row column →
     TieDoes d t row column (ties x) answer t' →
-    Goes_on (draft d) t draft draft (tied_at (place d.shape row column) (ties x)) answer t' → TiesSample d t u x (plain (λ z. z) answer) t'
+    GoesOn (draft d) t draft draft (tied_at (place d.shape row column) (ties x)) answer t' → TiesSample d t u x (plain (λ z. z) answer) t'
 ties_up law d t u row column x answer t' at does on rule lawful s h whole inside run =
     followed (λ _ e z. ap (plain (λ z. z)) z.0) (λ _ a. record { answered = d; answers = ap (plain (λ z. z)) a.0; run = end a.0 })
     (subst (λ (p : ℕ). Checked 6 Tie (SoundTies s p (ties x)) (LeavesAll d t answer t') Writes) (spot s u row column here)

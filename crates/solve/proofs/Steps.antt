@@ -20,7 +20,7 @@ use Rattle.filter.specs.declared.answers.Refused.{Refused}
 use Rattle.filter.specs.declared.answers.Rounded.{Rounded}
 use Rattle.filter.specs.Checks.{Checked, refused, passed, TileChecked, RoundChecked, FinishChecked}
 use Rattle.filter.specs.Calls.{GivesBack, LeavesAll, Begun, BeginDoes, RoundedBy, RoundDoes, FinishedBy, FinishDoes, heights}
-use Rattle.filter.specs.Runs.{begun, rounded, finished, History, surveyed, State, draft, rounding, level, added, next, Lent, Run, Goes_on, GoesOnUnder}
+use Rattle.filter.specs.Runs.{begun, rounded, finished, History, surveyed, State, draft, rounding, level, added, next, Lent, Run, GoesOn, GoesOnUnder}
 use Rattle.filter.specs.Laws.{EveryRunKeepsTheLaw}
 use Rattle.solve.specs.Solving.{RefusedAs, RoundsChecked, Solved, SolveDoes, Led, RoundedTo, BeginsRounds, From, RoundsOnce, RoundsAll, FinishesRounds}
 use Rattle.filter.proofs.Outcomes.{followed, surely}
@@ -42,7 +42,7 @@ broke answer why b = let p = err_from_is_err_and answer b in p.1 ∙ ap Err p.2
 
 -- ---- begin
 
-pub begins : EveryRunKeepsTheLaw → (d : Draft) (t : Tile) (answer : Result Rounding (Refused Draft)) → BeginDoes d t answer → Goes_on (draft d) t draft rounding begun answer t →
+pub begins : EveryRunKeepsTheLaw → (d : Draft) (t : Tile) (answer : Result Rounding (Refused Draft)) → BeginDoes d t answer → GoesOn (draft d) t draft rounding begun answer t →
     BeginsRounds d t (plain (λ x. x) answer)
 begins law d t answer does on rule lawful s h r run lent =
     let same : d.shape ≡ s = run_shape rule lawful run in
@@ -80,7 +80,7 @@ rounds_once law rule lawful leaves x t n answer t' does on s h whole run =
 pub front_heights : (n : ℕ) (t : Tile) (u : ℕ) → u < n → heights (take n t) u ≡ heights t u
 front_heights n t u l = ap (λ (c : Cell). c.low) (get_or-take n t u blank l)
 
-pub finishes : EveryRunKeepsTheLaw → (x : Rounding) (t : Tile) (answer : Result Level (Refused Rounding)) → FinishDoes x t answer → Goes_on (rounding x) t rounding level finished answer t →
+pub finishes : EveryRunKeepsTheLaw → (x : Rounding) (t : Tile) (answer : Result Level (Refused Rounding)) → FinishDoes x t answer → GoesOn (rounding x) t rounding level finished answer t →
     FinishesRounds x t (plain (λ l. l) answer)
 finishes law x t answer does on rule lawful s h whole run over =
     let same : x.shape ≡ s = run_shape rule lawful run in

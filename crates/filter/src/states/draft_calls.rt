@@ -4,7 +4,7 @@ ghost use Rattle.limits.specs.Limits.{most_rows};
 ghost use Rattle.passes.specs.Writing.{weights};
 ghost use Rattle.filter.specs.Checks.{place};
 ghost use Rattle.filter.specs.Calls.{StartDoes, PutDoes, TieDoes, BeginDoes};
-ghost use Rattle.filter.specs.Runs.{draft, rounding, put_at, tied_at, begun, Begins, Goes_on};
+ghost use Rattle.filter.specs.Runs.{draft, rounding, put_at, tied_at, begun, Begins, GoesOn};
 ghost use Rattle.filter.specs.Laws.{EveryRunKeepsTheLaw};
 
 use crate::answers::Refused;
@@ -68,7 +68,7 @@ impl Draft {
         class: u8,
     ) -> Result<Draft, Refused<Draft>>
         ensures does { PutDoes self tile.old row column reading class result tile.new }
-        ensures goes_on { Goes_on (draft self) tile.old draft draft (put_at (place self.shape row column) reading class) result tile.new }
+        ensures goes_on { GoesOn (draft self) tile.old draft draft (put_at (place self.shape row column) reading class) result tile.new }
         ensures law { EveryRunKeepsTheLaw }
     {
         let shape = self.shape;
@@ -89,7 +89,7 @@ impl Draft {
         down: u16,
     ) -> Result<Draft, Refused<Draft>>
         ensures does { TieDoes self tile.old row column (weights right down) result tile.new }
-        ensures goes_on { Goes_on (draft self) tile.old draft draft (tied_at (place self.shape row column) (weights right down)) result tile.new }
+        ensures goes_on { GoesOn (draft self) tile.old draft draft (tied_at (place self.shape row column) (weights right down)) result tile.new }
         ensures law { EveryRunKeepsTheLaw }
     {
         let shape = self.shape;
@@ -103,7 +103,7 @@ impl Draft {
     // Closes the draft, so that rounds can be done. Writes nothing.
     pub fn begin(self, tile: &[Cell]) -> Result<Rounding, Refused<Draft>>
         ensures does { BeginDoes self tile.now result }
-        ensures goes_on { Goes_on (draft self) tile.now draft rounding begun result tile.now }
+        ensures goes_on { GoesOn (draft self) tile.now draft rounding begun result tile.now }
         ensures law { EveryRunKeepsTheLaw }
     {
         let shape = self.shape;

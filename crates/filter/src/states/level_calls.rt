@@ -2,7 +2,7 @@
 ghost use Rattle.std.specs.Prelude.{◌≡◌, map};
 ghost use Rattle.tile.specs.declared.cell.Cell.{Cell as Record};
 ghost use Rattle.filter.specs.Calls.{ReopenDoes, HeightDoes, CostDoes};
-ghost use Rattle.filter.specs.Runs.{draft, level, reopened, Goes_on};
+ghost use Rattle.filter.specs.Runs.{draft, level, reopened, GoesOn};
 ghost use Rattle.filter.specs.Laws.{EveryRunKeepsTheLaw};
 
 use crate::answers::Refused;
@@ -66,7 +66,7 @@ impl Level {
     // Goes back to a draft: keeps readings, classes and ties, and resets the rest as start does.
     pub fn reopen(self, tile: &mut [Cell]) -> Result<Draft, Refused<Level>>
         ensures does { ReopenDoes self self.shape self.done tile.old result tile.new }
-        ensures goes_on { Goes_on (level self) tile.old level draft reopened result tile.new }
+        ensures goes_on { GoesOn (level self) tile.old level draft reopened result tile.new }
         ensures law { EveryRunKeepsTheLaw }
     {
         let shape = self.shape;

@@ -7,7 +7,7 @@ ghost use Rattle.passes.specs.Writing.{reset, rewritten};
 ghost use Rattle.passes.specs.Rounds.{charged, Chargeable, Narrowable};
 ghost use Rattle.filter.specs.Checks.{TileChecked};
 ghost use Rattle.filter.specs.Calls.{HalvedBy, RoundDoes, FinishDoes, ReopenDoes, MarksSmallest, SurveyKept, KeptIfRefused};
-ghost use Rattle.filter.specs.Runs.{draft, rounding, level, rounded, finished, reopened, Goes_on, GoesOnUnder};
+ghost use Rattle.filter.specs.Runs.{draft, rounding, level, rounded, finished, reopened, GoesOn, GoesOnUnder};
 ghost use Rattle.filter.specs.Laws.{EveryRunKeepsTheLaw};
 
 use crate::answers::{Refused, Rounded};
@@ -112,7 +112,7 @@ impl Rounding {
     // Ends the rounds, once those due are done. Writes nothing.
     pub fn finish(self, tile: &[Cell]) -> Result<Level, Refused<Rounding>>
         ensures does { FinishDoes self tile.now result }
-        ensures goes_on { Goes_on (rounding self) tile.now rounding level finished result tile.now }
+        ensures goes_on { GoesOn (rounding self) tile.now rounding level finished result tile.now }
         ensures law { EveryRunKeepsTheLaw }
     {
         let (shape, done) = (self.shape, self.done);
@@ -125,7 +125,7 @@ impl Rounding {
     // Gives the rounds up: keeps readings, classes and ties, and resets the rest as start does.
     pub fn reopen(self, tile: &mut [Cell]) -> Result<Draft, Refused<Rounding>>
         ensures does { ReopenDoes self self.shape self.done tile.old result tile.new }
-        ensures goes_on { Goes_on (rounding self) tile.old rounding draft reopened result tile.new }
+        ensures goes_on { GoesOn (rounding self) tile.old rounding draft reopened result tile.new }
         ensures law { EveryRunKeepsTheLaw }
     {
         let shape = self.shape;

@@ -6,7 +6,8 @@
 
 A name counts as the repository's own where a file of specs/ or proofs/ declares it: a signature, a record, a field, a
 constructor, a `let`, a bound variable with a type. Names of goals (declared as `NAME : goal.NAME`) and of the library keep
-theirs. Comments and strings of .rt files are left alone; functions, fields and labels of src/ have no dash and so stay.
+theirs. Comments are left alone, and in .rt files each line with a string; functions, fields and labels of src/ have no dash
+and so stay. Names after `as` in a `use` line are not found.
 """
 import glob
 import os

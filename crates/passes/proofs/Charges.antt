@@ -4,7 +4,7 @@ use mathlib.Core.Path.{fun_ext}
 use Rattle.std.proofs.lemmas.Int.{ints}
 use Rattle.std.proofs.lemmas.Bool.{cases_lt, cases_order, cond-true, cond-false, cond_both, and_from, and_parts, leb-true, ltb-true, eqb-false, le-leb, lt-ltb}
 use Rattle.limits.specs.Limits.{most_charge, most_class, most_step, most_tie}
-use Rattle.price.specs.Rules.{Rule, Lawful, known, priced, stepped, step as rule-step}
+use Rattle.price.specs.Rules.{Rule, Lawful, known, priced, stepped, step as rule_step}
 use Rattle.theory.specs.Brackets.{Brackets, middle, settled, lies_below, tied_to, halving_charges}
 use Rattle.theory.specs.Grids.{step}
 use Rattle.tile.specs.declared.cell.Cell.{Cell}
@@ -30,7 +30,7 @@ priced_is r v q k e l = cond-true (known r.greatest v q && leb k r.greatest) (r.
 -- and with its step below that
 stepped_is : (r : Rule) (v q k : ℕ) → known r.greatest v q ≡ true → k < r.greatest → stepped r v q k ≡ pos (priced r v q (suc k)) -ℤ pos (priced r v q k)
 stepped_is r v q k e l =
-    cond-true (known r.greatest v q && ltb k r.greatest) (rule-step r v q k) (pos 0) (and_from _ _ e (lt-ltb _ _ l))
+    cond-true (known r.greatest v q && ltb k r.greatest) (rule_step r v q k) (pos 0) (and_from _ _ e (lt-ltb _ _ l))
     ∙ ap₂ (λ (x y : ℕ). pos x -ℤ pos y) (ap (r.price v q) (add-one k) ∙ sym (priced_is r v q (suc k) e (omega arith))) (sym (priced_is r v q k e (omega arith)))
 
 abs_few : (z : ℤ) (n : ℕ) → neg_ℤ (pos n) ≤ℤ z → z ≤ℤ pos n → nat_abs z ≤ n
@@ -40,14 +40,14 @@ abs_few z n p q = omega (arith, ints)
 pub stepped_few : (r : Rule) → Lawful r → (v q k : ℕ) (z : ℤ) → z ≡ stepped r v q k → nat_abs z ≤ most_step
 stepped_few r law v q k z is =
     rw is
-    (cond_both (known r.greatest v q && ltb k r.greatest) (rule-step r v q k) (pos 0) (λ x. nat_abs x ≤ most_step)
+    (cond_both (known r.greatest v q && ltb k r.greatest) (rule_step r v q k) (pos 0) (λ x. nat_abs x ≤ most_step)
     (λ e.
     let a = and_parts (known r.greatest v q) (ltb k r.greatest) e in
     let b = and_parts (leb v r.greatest) (leb q most_class) a.0 in
     let lv = leb-true v r.greatest b.0 in
     let lq = leb-true q most_class b.1 in
     let lk : k + 1 ≤ r.greatest = omega (arith, ltb-true k r.greatest a.1) in
-    abs_few (rule-step r v q k) most_step (law.step_least v q k lv lq lk) (law.step_most v q k lv lq lk))
+    abs_few (rule_step r v q k) most_step (law.step_least v q k lv lq lk) (law.step_most v q k lv lq lk))
     (λ e. omega arith))
 
 -- the middle of an unsettled bracket lies below the top

@@ -53,25 +53,16 @@ def respelled(name):
     return name.replace("-", "_")
 
 
-def in_antt(text, new):
+def turned(path, text, new):
+    """The text of a file with its names respelled, but for comments and, in .rt files, lines with a string."""
+    antt = path.endswith(".antt")
+    mark = r"(^|\s)--(\s|$)" if antt else r"(^|\s)//"
     out = []
     for line in text.split("\n"):
-        code, comment = line, ""
-        cut = re.search(r"(^|\s)--(\s|$)", line)
-        if cut:
-            code, comment = line[: cut.start()], line[cut.start():]
-        out.append(TOKEN.sub(lambda m: new.get(m.group(0), m.group(0)), code) + comment)
-    return "\n".join(out)
-
-
-def in_code(text, new):
-    out = []
-    for line in text.split("\n"):
-        code, comment = line, ""
-        cut = re.search(r"(^|\s)//", line)
-        if cut:
-            code, comment = line[: cut.start()], line[cut.start():]
-        if '"' not in code:
+        cut = re.search(mark, line)
+        end = cut.start() if cut else len(line)
+        code, comment = line[:end], line[end:]
+        if antt or '"' not in code:
             code = TOKEN.sub(lambda m: new.get(m.group(0), m.group(0)), code)
         out.append(code + comment)
     return "\n".join(out)
@@ -105,10 +96,10 @@ def main():
         return
     for path in proof_files(top) + code_files(top):
         text = open(path).read()
-        turned = in_antt(text, new) if path.endswith(".antt") else in_code(text, new)
-        if turned != text:
+        after = turned(path, text, new)
+        if after != text:
             with open(path, "w") as file:
-                file.write(turned)
+                file.write(after)
     print(f"respell: {len(new)} names in {os.path.abspath(top)}")
 
 

@@ -1,5 +1,5 @@
 -- What the record of a cell stores on its sides, and its bracket.
-use Rattle.std.specs.Prelude.{ℕ, ℤ}
+use Rattle.std.specs.Prelude.{ℕ, Bool, not, ◌&&◌, ◌==◌, ℤ}
 use Rattle.tile.specs.declared.bracket.Bracket.{Bracket}
 use Rattle.tile.specs.declared.cell.Cell.{Cell}
 use Rattle.tile.specs.declared.side.Side.{Side}
@@ -18,3 +18,7 @@ stored_flow c Downward = c.down_flow
 -- the heights that the cell may still take
 abbrev pub stored_bracket : Cell → Bracket
 stored_bracket c = record { low = c.low; high = c.high }
+
+-- the two cells have the same bracket, and it is not settled
+abbrev pub share_bracket : Cell → Cell → Bool
+share_bracket a b = (a.low == b.low && a.high == b.high) && not (a.low == a.high)

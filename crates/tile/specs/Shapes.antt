@@ -32,10 +32,14 @@ pub record NotMade (most rows columns top : ℕ) (e : Refusal) : Type 0 where
   pub because : e ≡ Range
   pub numbered : number e ≡ 1
 
--- the shape of a tile, made where its rows, columns and top are in bounds, else refused
-abbrev pub Made : ℕ → ℕ → ℕ → Result Shape Refusal → Type 0
-Made rows columns top r = MatchResult r (MadeOf most_rows rows columns top) (NotMade most_rows rows columns top)
+-- a shape of at most so many rows: made where its rows, columns and top are in bounds, else refused
+abbrev pub MadeWithin : ℕ → ℕ → ℕ → ℕ → Result Shape Refusal → Type 0
+MadeWithin most rows columns top r = MatchResult r (MadeOf most rows columns top) (NotMade most rows columns top)
 
--- the same for a strip of tiles, which may have more rows
+-- the shape of a tile
+abbrev pub Made : ℕ → ℕ → ℕ → Result Shape Refusal → Type 0
+Made = MadeWithin most_rows
+
+-- the shape of a strip of tiles, which may have more rows
 abbrev pub MadeStrip : ℕ → ℕ → ℕ → Result Shape Refusal → Type 0
-MadeStrip rows columns top r = MatchResult r (MadeOf most_strip_rows rows columns top) (NotMade most_strip_rows rows columns top)
+MadeStrip = MadeWithin most_strip_rows

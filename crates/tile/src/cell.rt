@@ -1,12 +1,12 @@
 // The record of one cell.
 ghost use Rattle.std.specs.Prelude.{◌≡◌};
-ghost use Rattle.tile.specs.Records.{stored_tie, stored_flow, stored_bracket};
+ghost use Rattle.tile.specs.Records.{stored_tie, stored_flow, stored_bracket, share_bracket};
 
 use crate::bracket::Bracket;
 use crate::side::Side;
 
 // The host owns the records of a tile, row by row, and may write anything into them.
-#[derive(Clone, Copy)]
+#[derive(Clone, Copy, Default)]
 pub struct Cell {
     // What was read at the cell.
     pub reading: u16,
@@ -61,5 +61,12 @@ impl Cell {
             low: self.low,
             high: self.high,
         }
+    }
+
+    // Have the two cells the same bracket, with more than one height in it? Then a tie between them is live.
+    pub fn shares_bracket(&self, other: &Cell) -> bool
+        ensures { result ≡ share_bracket self.now other.now }
+    {
+        self.bracket() == other.bracket() && !self.bracket().is_settled()
     }
 }

@@ -28,10 +28,6 @@ impl<'a> HeightGrid for HeightList<'a> {
     }
 
     fn height(&self, cell: usize) -> u16 {
-        if cell < self.count() {
-            self.list[cell]
-        } else {
-            0
-        }
+        self.list.get(cell).copied().unwrap_or(0)
     }
 }

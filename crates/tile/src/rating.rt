@@ -1,9 +1,7 @@
 // The energy of a grid of heights.
 ghost use Rattle.std.specs.Prelude.{◌≡◌, ◌*◌, ◌^◌, ◌<◌};
-ghost use Rattle.theory.specs.Grids.{gap, energy};
-ghost use Rattle.tile.specs.Shapes.{cells};
-ghost use Rattle.tile.specs.Tiles.{survey, problem};
-ghost use Rattle.tile.specs.Rating.{height, side_cost, cell_cost, Whole, Rated};
+ghost use Rattle.theory.specs.Grids.{gap};
+ghost use Rattle.tile.specs.Rating.{Whole, Rated};
 
 use crate::cell::Cell;
 use crate::grid::HeightGrid;
@@ -20,48 +18,64 @@ fn tie_cost(weight: u16, near: u16, far: u16) -> u64
     u64::from(weight) * u64::from(near.abs_diff(far))
 }
 
-// What the tie on a side of a cell costs; 0 where there is none.
-fn side_cost<G: HeightGrid>(shape: Shape, tile: &[Cell], grid: &G, at: usize, side: Side) -> u64
-    requires whole { Whole shape tile.now (G.HeightGrid.heights grid.now) }
-    requires inside { at < cells shape }
-    ensures value { result ≡ side_cost shape (survey tile.now) (height (G.HeightGrid.heights grid.now)) at side }
-    ensures few { result < 2 ^ 32 }
-{
-    match shape.neighbour(at, side) {
-        Some(other) => tie_cost(tile[at].tie(side), grid.height(at), grid.height(other)),
-        None => 0,
-    }
-}
-
-// What a cell costs: the price of its height, and the ties that its record stores.
-fn cell_cost<P: PriceRule, G: HeightGrid>(
-    rule: &P,
+// A tile and a grid that are rated under a price rule: there are a record and a height for each cell.
+#[derive(Drop)]
+struct Rating<'a, P: PriceRule, G: HeightGrid> {
+    rule: &'a P,
     shape: Shape,
-    tile: &[Cell],
-    grid: &G,
-    at: usize,
-) -> u64
-    requires whole { Whole shape tile.now (G.HeightGrid.heights grid.now) }
-    requires inside { at < cells shape }
-    ensures value { result ≡ cell_cost (P.PriceRule.rule rule.now) shape (survey tile.now) (height (G.HeightGrid.heights grid.now)) at }
-    ensures few { result < 2 ^ 34 }
-{
-    let price = rule.price(tile[at].reading, tile[at].class, grid.height(at));
-    let right = side_cost(shape, tile, grid, at, Side::Rightward);
-    let down = side_cost(shape, tile, grid, at, Side::Downward);
-    u64::from(price) + right + down
+    tile: &'a [Cell],
+    grid: &'a G,
+    ghost whole: { Whole shape tile.now (G.HeightGrid.heights grid.now) },
 }
 
-// The costs of all cells.
-fn costs<P: PriceRule, G: HeightGrid>(rule: &P, shape: Shape, tile: &[Cell], grid: &G) -> u64
-    requires { Whole shape tile.now (G.HeightGrid.heights grid.now) }
-    ensures { result ≡ energy (problem (P.PriceRule.rule rule.now) shape (survey tile.now)) (height (G.HeightGrid.heights grid.now)) }
-{
-    let mut sum = 0;
-    for at in 0..shape.cells() {
-        sum += cell_cost(rule, shape, tile, grid, at);
+impl<'a, P: PriceRule, G: HeightGrid> Rating<'a, P, G> {
+    ghost use Rattle.theory.specs.Grids.{energy};
+    ghost use Rattle.tile.specs.Shapes.{cells};
+    ghost use Rattle.tile.specs.Tiles.{survey, problem};
+    ghost use Rattle.tile.specs.Rating.{height, side_cost, cell_cost};
+
+    // What the tie on a side of a cell costs; 0 where there is none.
+    fn side_cost(&self, at: usize, side: Side) -> u64
+        requires { at < cells self.now.shape }
+        ensures value { result ≡ side_cost self.now.shape (survey self.now.tile.now) (height (G.HeightGrid.heights self.now.grid.now)) at side }
+        ensures few { result < 2 ^ 32 }
+    {
+        match self.shape.neighbour(at, side) {
+            Some(other) => tie_cost(
+                self.tile[at].tie(side),
+                self.grid.height(at),
+                self.grid.height(other),
+            ),
+            None => 0,
+        }
     }
-    sum
+
+    // What a cell costs: the price of its height, and the ties that its record stores.
+    fn cell_cost(&self, at: usize) -> u64
+        requires { at < cells self.now.shape }
+        ensures value { result ≡ cell_cost (P.PriceRule.rule self.now.rule.now) self.now.shape (survey self.now.tile.now) (height (G.HeightGrid.heights self.now.grid.now)) at }
+        ensures few { result < 2 ^ 34 }
+    {
+        let cell = &self.tile[at];
+        let price = self
+            .rule
+            .price(cell.reading, cell.class, self.grid.height(at));
+        let right = self.side_cost(at, Side::Rightward);
+        let down = self.side_cost(at, Side::Downward);
+        u64::from(price) + right + down
+    }
+
+    // The costs of all cells.
+    fn costs(&self) -> u64
+        ensures { result ≡ energy (problem (P.PriceRule.rule self.now.rule.now) self.now.shape (survey self.now.tile.now)) (height (G.HeightGrid.heights self.now.grid.now)) }
+    {
+        // A chain with `sum` leaves open that the sum fits, as its closure is generic.
+        let mut sum = 0;
+        for at in 0..self.shape.cells() {
+            sum += self.cell_cost(at);
+        }
+        sum
+    }
 }
 
 // The energy of the heights over the survey that the records hold, whatever they hold.
@@ -76,5 +90,11 @@ pub fn energy<P: PriceRule, G: HeightGrid>(
     if tile.len() < shape.cells() || grid.count() < shape.cells() {
         return Err(Refusal::FewRecords);
     }
-    Ok(costs(rule, shape, tile, grid))
+    Ok(Rating {
+        rule,
+        shape,
+        tile,
+        grid,
+    }
+    .costs())
 }

@@ -63,14 +63,8 @@ fn cell(reading: u16, right: u16) -> Cell {
         reading,
         class: 1,
         right,
-        down: 0,
-        right_flow: 0,
-        down_flow: 0,
-        low: 0,
         high: 10,
-        charge: 0,
-        mark: 0,
-        rank: 0,
+        ..Cell::default()
     }
 }
 

@@ -1,20 +1,18 @@
 // How a shape is made, and what it was made of.
-ghost use Rattle.std.specs.Prelude.{◌≡◌, Decides};
-ghost use Rattle.tile.specs.Shapes.{Ranged, Made, MadeStrip};
+ghost use Rattle.std.specs.Prelude.{◌≡◌, ◌≤◌, ◌↔◌, IsTrue};
+ghost use Rattle.limits.specs.Limits.{most_strip_rows};
+ghost use Rattle.tile.specs.Shapes.{Ranged, MadeWithin, Made, MadeStrip};
 
 use crate::shape::Shape;
 use limits::{MAX_COLUMNS, MAX_ROWS, MAX_STRIP_ROWS, MAX_TOP, Refusal};
 
 // Are rows, columns and top within their bounds?
 fn is_ranged(most_rows: usize, rows: usize, columns: usize, top: u16) -> bool
-    ensures { Decides result (Ranged most_rows rows columns top) }
+    ensures { IsTrue result ↔ Ranged most_rows rows columns top }
 {
-    1 <= rows
-        && rows <= most_rows
-        && 1 <= columns
-        && columns <= MAX_COLUMNS
-        && 1 <= top
-        && top <= MAX_TOP
+    (1..=most_rows).contains(&rows)
+        && (1..=MAX_COLUMNS).contains(&columns)
+        && (1..=MAX_TOP).contains(&top)
 }
 
 impl Shape {
@@ -22,18 +20,22 @@ impl Shape {
     pub fn new(rows: usize, columns: usize, top: u16) -> Result<Shape, Refusal>
         ensures { Made rows columns top result }
     {
-        if is_ranged(MAX_ROWS, rows, columns, top) {
-            Ok(Shape { rows, columns, top })
-        } else {
-            Err(Refusal::Range)
-        }
+        Shape::within(MAX_ROWS, rows, columns, top)
     }
 
     // The shape of several tiles below one another, which are cut as one.
     pub fn of_strip(rows: usize, columns: usize, top: u16) -> Result<Shape, Refusal>
         ensures { MadeStrip rows columns top result }
     {
-        if is_ranged(MAX_STRIP_ROWS, rows, columns, top) {
+        Shape::within(MAX_STRIP_ROWS, rows, columns, top)
+    }
+
+    // The shape, if it has at most so many rows.
+    fn within(most_rows: usize, rows: usize, columns: usize, top: u16) -> Result<Shape, Refusal>
+        requires { most_rows ≤ most_strip_rows }
+        ensures { MadeWithin most_rows rows columns top result }
+    {
+        if is_ranged(most_rows, rows, columns, top) {
             Ok(Shape { rows, columns, top })
         } else {
             Err(Refusal::Range)

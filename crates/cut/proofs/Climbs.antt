@@ -10,7 +10,8 @@ use Rattle.tile.specs.declared.side.Side.{Side}
 use Rattle.tile.specs.Records.{stored_flow}
 use Rattle.tile.specs.Tiles.{Tile, cell}
 use Rattle.theory.specs.Sums.{sum}
-use Rattle.flow.specs.Sides.{beside, has_beside, opposite, offset, room_forth, room_back, room, remains, lack, total_lack, InDeficit, InSurplus, SameSurvey, Admissible, Eased, Sent, add_flow, pushed}
+use Rattle.flow.specs.Sides.{beside, has_beside, opposite, room_forth, room_back, room, remains, lack, total_lack, InDeficit, InSurplus, SameSurvey, Admissible, Eased, Sent, add_flow, pushed}
+use Rattle.tile.specs.Ties.{offset}
 use Rattle.cut.specs.Ranks.{rank_of}
 use Rattle.cut.specs.Searches.{Parent}
 use Rattle.cut.specs.Climbs.{Higher, Above, Relieved}

@@ -10,7 +10,8 @@ use Rattle.flow.specs.declared.direction.Direction.TheVariants.{Right, Down, Lef
 use Rattle.tile.specs.declared.side.Side.TheVariants.{Rightward, Downward}
 use Rattle.tile.specs.declared.side.Side.{Side}
 use Rattle.tile.specs.Tiles.{Tile, cell, blank}
-use Rattle.flow.specs.Sides.{beside, offset, room_forth, room_back, room, InDeficit, SameFlows, unranked}
+use Rattle.flow.specs.Sides.{beside, room_forth, room_back, room, InDeficit, SameFlows, unranked}
+use Rattle.tile.specs.Ties.{offset}
 use Rattle.cut.specs.Ranks.{rank_of, with_rank, ranked_at, has_rank, ranked}
 use Rattle.cut.specs.Searches.{Among, Parent, Grown, Spread, Searching, Grows}
 use Rattle.flow.proofs.Fields.{set_field, live_still, weight_still, flow_level, remains_level, level_still, level_self, level_trans}

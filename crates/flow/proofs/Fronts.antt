@@ -11,9 +11,9 @@ use Rattle.tile.specs.declared.side.Side.{Side}
 use Rattle.tile.specs.declared.side.Side.TheVariants.{Rightward, Downward}
 use Rattle.tile.specs.Records.{stored_tie, stored_flow}
 use Rattle.tile.specs.Shapes.{cells}
-use Rattle.tile.specs.Ties.{has_neighbour}
+use Rattle.tile.specs.Ties.{offset, has_neighbour}
 use Rattle.tile.specs.Tiles.{Tile, cell, blank}
-use Rattle.flow.specs.Sides.{offset, live_pair, uncut, Admissible, Cut}
+use Rattle.flow.specs.Sides.{live_pair, uncut, Admissible, Cut}
 use Rattle.flow.specs.Networks.{is_live}
 use Rattle.flow.specs.Points.{FlowsFit, Cuttable, FourPoints}
 use Rattle.flow.proofs.Fields.{weight_still}

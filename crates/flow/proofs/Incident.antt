@@ -10,9 +10,9 @@ use Rattle.tile.specs.declared.side.Side.{Side}
 use Rattle.tile.specs.declared.side.Side.TheVariants.{Rightward, Downward}
 use Rattle.tile.specs.Records.{stored_flow}
 use Rattle.tile.specs.Shapes.{cells}
-use Rattle.tile.specs.Ties.{Tie, has_neighbour, neighbour, tie_on, ties_of, ties_below}
+use Rattle.tile.specs.Ties.{offset, Tie, has_neighbour, neighbour, tie_on, ties_of, ties_below}
 use Rattle.tile.specs.Tiles.{Tile, cell}
-use Rattle.flow.specs.Sides.{offset, remains}
+use Rattle.flow.specs.Sides.{remains}
 use Rattle.flow.specs.Networks.{charges, flow_on, network, is_live}
 use Rattle.flow.specs.Points.{FlowsFit}
 use Rattle.flow.proofs.LiveTies.{tie_at, lives}

@@ -10,10 +10,10 @@ use Rattle.tile.specs.declared.shape.Shape.{Shape}
 use Rattle.tile.specs.declared.side.Side.{Side}
 use Rattle.tile.specs.declared.side.Side.TheVariants.{Rightward, Downward}
 use Rattle.tile.specs.Shapes.{cells}
-use Rattle.tile.specs.Ties.{Tie, sides, has_neighbour, neighbour, tie_on, ties_of, ties_below, ties}
+use Rattle.tile.specs.Ties.{offset, Tie, sides, has_neighbour, neighbour, tie_on, ties_of, ties_below, ties}
 use Rattle.tile.specs.Tiles.{Tile, cell}
 use Rattle.tile.proofs.Joins.{neighbour_inside}
-use Rattle.flow.specs.Sides.{offset, live_pair}
+use Rattle.flow.specs.Sides.{live_pair}
 use Rattle.flow.specs.Networks.{brackets, weighted, network, is_live}
 
 -- the tie that the record of the cell u stores on a side

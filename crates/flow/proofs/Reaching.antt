@@ -9,12 +9,12 @@ use Rattle.tile.specs.declared.side.Side.{Side}
 use Rattle.tile.specs.declared.side.Side.TheVariants.{Rightward, Downward}
 use Rattle.tile.specs.Records.{stored_tie, stored_flow}
 use Rattle.tile.specs.Shapes.{cells}
-use Rattle.tile.specs.Ties.{has_neighbour, neighbour}
+use Rattle.tile.specs.Ties.{offset, has_neighbour, neighbour}
 use Rattle.tile.specs.Tiles.{Tile, cell}
 use Rattle.tile.proofs.Joins.{neighbour_inside}
 use Rattle.flow.specs.declared.direction.Direction.{Direction}
 use Rattle.flow.specs.declared.direction.Direction.TheVariants.{Right, Down, Left, Up}
-use Rattle.flow.specs.Sides.{beside, live_pair, offset, room, remains, Reach, starts, goes}
+use Rattle.flow.specs.Sides.{beside, live_pair, room, remains, Reach, starts, goes}
 use Rattle.flow.specs.Networks.{charges, flow_on, network}
 use Rattle.flow.specs.Points.{FlowsFit}
 use Rattle.flow.proofs.Pushes.{open_forth, open_back, room_there, there_in}

@@ -1,3 +1,4 @@
 pub mod Sides
+pub mod Lent
 pub mod Networks
 pub mod Points

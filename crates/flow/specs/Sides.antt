@@ -1,12 +1,13 @@
 -- Flows as the cells see them, by their four sides and with no column arithmetic: a tie off the edge weighs nothing, so
 -- nothing ever runs over it. A tile here is a whole list of records in rows of c.
-use Rattle.std.specs.Prelude.{◌≡◌, ℕ, ◌+◌, ◌-◌, ◌*◌, ◌<◌, ◌≤◌, Bool, true, false, cond, not, ◌&&◌, length, ℤ, pos, ◌+ℤ◌, ◌-ℤ◌, neg_ℤ, ◌≤ℤ◌, ◌<ℤ◌, ◌==◌, nat_le, nat_lt, slice_set, unsigned_abs}
+use Rattle.std.specs.Prelude.{◌≡◌, ℕ, ◌+◌, ◌-◌, ◌*◌, ◌<◌, ◌≤◌, Bool, true, false, cond, Some, None, Option, length, ℤ, pos, ◌+ℤ◌, ◌-ℤ◌, neg_ℤ, ◌≤ℤ◌, ◌<ℤ◌, nat_le, nat_lt, slice_set, unsigned_abs}
 use borrow.Author.Differences.{down}
 use Rattle.limits.specs.Limits.{most_charge, most_tie, most_columns, most_strip_rows}
 use Rattle.tile.specs.declared.cell.Cell.{Cell}
 use Rattle.tile.specs.declared.side.Side.{Side}
 use Rattle.tile.specs.declared.side.Side.TheVariants.{Rightward, Downward}
-use Rattle.tile.specs.Records.{stored_tie, stored_flow}
+use Rattle.tile.specs.Records.{stored_tie, stored_flow, share_bracket}
+use Rattle.tile.specs.Ties.{offset}
 use Rattle.tile.specs.Tiles.{Tile, cell}
 use Rattle.theory.specs.Sums.{sum}
 use Rattle.flow.specs.declared.direction.Direction.{Direction}
@@ -33,14 +34,27 @@ has_beside c n Down u = nat_lt (u + c) n
 has_beside c n Left u = nat_le 1 u
 has_beside c n Up u = nat_le c u
 
+-- the cell in this direction, where there is a record
+abbrev pub found_beside : ℕ → ℕ → Direction → ℕ → Option ℕ
+found_beside c n h u = cond (has_beside c n h u) (Some (beside c h u)) None
+
+-- the side on which a tie in this direction is stored, and the flow over it out of the cell, when it is f away from the
+-- cell that stores it
+abbrev pub side_of : Direction → Side
+side_of Right = Rightward
+side_of Down = Downward
+side_of Left = Rightward
+side_of Up = Downward
+
+abbrev pub flow_out : Direction → ℤ → ℤ
+flow_out Right f = f
+flow_out Down f = f
+flow_out Left f = neg_ℤ f
+flow_out Up f = neg_ℤ f
+
 -- two cells have the same bracket and are not settled
 abbrev pub live_pair : Tile → ℕ → ℕ → Bool
-live_pair t a b = ((cell t a).low == (cell t b).low && (cell t a).high == (cell t b).high) && not ((cell t a).low == (cell t a).high)
-
--- how far the second cell of a tie lies from the first
-abbrev pub offset : ℕ → Side → ℕ
-offset c Rightward = 1
-offset c Downward = c
+live_pair t a b = share_bracket (cell t a) (cell t b)
 
 -- how much more the tie stored at a takes forwards, and backwards; none where it is not live
 abbrev pub room_forth : Tile → ℕ → Side → ℕ → ℤ

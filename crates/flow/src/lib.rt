@@ -6,4 +6,5 @@ pub mod flows;
 pub mod maker;
 
 pub use direction::Direction;
+pub use flows::Flows;
 pub use maker::{CutMaker, run_cut};

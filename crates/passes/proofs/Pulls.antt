@@ -10,11 +10,10 @@ use Rattle.tile.specs.declared.side.Side.{Side}
 use Rattle.tile.specs.declared.side.Side.TheVariants.{Rightward, Downward}
 use Rattle.tile.specs.Records.{stored_tie}
 use Rattle.tile.specs.Shapes.{cells}
-use Rattle.tile.specs.Ties.{Tie, has_neighbour, neighbour, tie_on, ties_of, ties_below}
+use Rattle.tile.specs.Ties.{offset, Tie, has_neighbour, neighbour, tie_on, ties_of, ties_below}
 use Rattle.tile.specs.Tiles.{Tile, cell}
 use Rattle.tile.proofs.Joins.{neighbour_inside}
 use Rattle.flow.specs.Networks.{weighted, brackets}
-use Rattle.flow.specs.Sides.{offset}
 use Rattle.flow.proofs.LiveTies.{tie_at, neighbour_is}
 use Rattle.passes.specs.Rounds.{Chargeable}
 use Rattle.passes.specs.Pulls.{pull_ahead, pull_behind, pull_over}

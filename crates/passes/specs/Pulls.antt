@@ -6,7 +6,7 @@ use Rattle.tile.specs.declared.side.Side.{Side}
 use Rattle.tile.specs.Records.{stored_tie}
 use Rattle.tile.specs.Shapes.{cells}
 use Rattle.tile.specs.Tiles.{Tile, cell}
-use Rattle.flow.specs.Sides.{offset}
+use Rattle.tile.specs.Ties.{offset}
 
 -- What a tie of weight w adds: w where the bracket of the other cell lies below, minus w where it lies above.
 abbrev pub pull : Cell → Cell → ℕ → ℤ

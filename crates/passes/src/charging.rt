@@ -6,7 +6,7 @@ ghost use Rattle.theory.specs.Brackets.{middle, lies_below, tied_to};
 ghost use Rattle.tile.specs.Shapes.{cells};
 ghost use Rattle.flow.specs.Networks.{weighted, brackets};
 ghost use Rattle.flow.specs.Points.{Cuttable};
-ghost use Rattle.flow.specs.Sides.{offset};
+ghost use Rattle.tile.specs.Ties.{offset};
 ghost use Rattle.passes.specs.Pulls.{pull, pull_ahead, pull_behind, pull_over};
 ghost use Rattle.passes.specs.Writing.{recharged};
 ghost use Rattle.passes.specs.Rounds.{charge_in, charged, Chargeable};

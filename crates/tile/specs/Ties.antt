@@ -11,6 +11,11 @@ use Rattle.tile.specs.Shapes.{cells}
 abbrev pub sides : List Side
 sides = Rightward ∷ Downward ∷ []
 
+-- how far the next record on a side lies, in rows of so many columns
+abbrev pub offset : ℕ → Side → ℕ
+offset c Rightward = 1
+offset c Downward = c
+
 -- has the cell u a neighbour on the side?
 abbrev pub has_neighbour : Shape → ℕ → Side → Bool
 has_neighbour s u Rightward = nat_lt (u % s.columns + 1) s.columns

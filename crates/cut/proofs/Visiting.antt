@@ -1,9 +1,11 @@
 -- One more cell in a search, with entries of any kind.
-use Rattle.std.proofs.Common.{◌≡◌, ℕ, ◌+◌, ◌-◌, ◌<◌, ◌≤◌, Bool, true, false, ◌⊎◌, List, [], ◌∷◌, ◌++◌, map, length, ℤ, pos, ◌<ℤ◌, Some, None, Option, sym, refl, ap, ◌∙◌, subst, inl, inr, ⊎_elim, arith}
+use Rattle.std.specs.Prelude.{⊤}
+use Rattle.std.proofs.Common.{◌≡◌, ℕ, ◌+◌, ◌-◌, ◌<◌, ◌≤◌, ◌⊎◌, List, [], ◌∷◌, ◌++◌, map, length, ℤ, pos, ◌<ℤ◌, Some, None, Option, Ok, Err, Result, sym, ap, ◌∙◌, subst, inl, inr, ⊎_elim, arith}
 use Rattle.std.specs.List.{AllByRecursion as All}
 use Rattle.std.proofs.lemmas.List.{length_push, length-map, map_push}
 use Rattle.std.proofs.ByRecursion.{All-push, All-weaker}
-use Rattle.std.proofs.lemmas.Bool.{cases_eq, lt-ltb}
+use Rattle.std.proofs.lemmas.Bool.{cases_eq}
+use Rattle.queue.proofs.Waits.{last_with_room}
 use Rattle.queue.specs.Queue.{waits, Enqueued}
 use Rattle.queue.specs.Queue.{capacity}
 use Rattle.queue.specs.declared.Queue.{Queue}
@@ -25,7 +27,7 @@ module _ {X : Type 0} (spot : X → ℕ) (came : X → Option Direction) where
   pub visited_none : (c u : ℕ) (h : Direction) (from : Option Direction) (t : Tile) (r : Queue X) → Looks spot came c u from t r → (pos 0 <ℤ room t c h u → 0 < rank_of t (beside c h u)) → Visited spot came c u h t t r r
   visited_none c u h from t r k d = record { grows = grows_self t; keeps = k.search; done = d; load_same = omega arith; backs = k.backs; olds = λ x a. a; news = λ x p. inl p }
 
-  visited_at : (c u : ℕ) (h : Direction) (from : Option Direction) (t : Tile) (r r' : Queue X) (s : X) (b : Bool) → Looks spot came c u from t r → beside c h u < length t → pos 0 <ℤ room t c h u → rank_of t (beside c h u) ≡ 0 → Enqueued r r' s b → spot s ≡ beside c h u → ((h' : Direction) → came s ≡ Some h' → h' ≡ opposite h) → Visited spot came c u h t (ranked_at t (beside c h u) (rank_of t u - 1)) r r'
+  visited_at : (c u : ℕ) (h : Direction) (from : Option Direction) (t : Tile) (r r' : Queue X) (s : X) (b : Result ⊤ X) → Looks spot came c u from t r → beside c h u < length t → pos 0 <ℤ room t c h u → rank_of t (beside c h u) ≡ 0 → Enqueued r r' s b → spot s ≡ beside c h u → ((h' : Direction) → came s ≡ Some h' → h' ≡ opposite h) → Visited spot came c u h t (ranked_at t (beside c h u) (rank_of t u - 1)) r r'
   visited_at c u h from t r r' s b k l o z p se sf =
       let n : ℕ = rank_of t u - 1 in
       let v : ℕ = beside c h u in
@@ -33,8 +35,7 @@ module _ {X : Type 0} (spot : X → ℕ) (came : X → Option Direction) where
       let put = search_put c t (spots spot r) (length t) u h k.search l o z in
       let na = not_all t v l z in
       let len = length-map (waits r) spot in
-      let yes' : b ≡ true = p.answer ∙ lt-ltb (length (waits r)) (capacity r) (omega (arith, k.search.few, k.rooms)) in
-      let q : waits r' ≡ waits r ++ s ∷ [] = p.last yes' in
+      let q = last_with_room r r' s b p (omega (arith, k.search.few, k.rooms)) in
       let qs : spots spot r' ≡ spots spot r ++ v ∷ [] = ap (map spot) q ∙ map_push spot (waits r) s ∙ ap (λ (x : ℕ). spots spot r ++ x ∷ []) se in
       let long = (level_ranked t v n).long in
       let count = count_up t v n l z (omega (arith, put.0)) in
@@ -58,7 +59,7 @@ module _ {X : Type 0} (spot : X → ℕ) (came : X → Option Direction) where
             (cases_eq x v);
       }
 
-  pub visited_put : (c u : ℕ) (h : Direction) (from : Option Direction) (t t' : Tile) (r r' : Queue X) (s : X) (v : ℕ) (b : Bool) → Looks spot came c u from t r → v ≡ beside c h u → v < length t → pos 0 <ℤ room t c h u → rank_of t v ≡ 0 → t' ≡ ranked_at t v (rank_of t u - 1) → Enqueued r r' s b → spot s ≡ v → ((h' : Direction) → came s ≡ Some h' → h' ≡ opposite h) → Visited spot came c u h t t' r r'
+  pub visited_put : (c u : ℕ) (h : Direction) (from : Option Direction) (t t' : Tile) (r r' : Queue X) (s : X) (v : ℕ) (b : Result ⊤ X) → Looks spot came c u from t r → v ≡ beside c h u → v < length t → pos 0 <ℤ room t c h u → rank_of t v ≡ 0 → t' ≡ ranked_at t v (rank_of t u - 1) → Enqueued r r' s b → spot s ≡ v → ((h' : Direction) → came s ≡ Some h' → h' ≡ opposite h) → Visited spot came c u h t t' r r'
   visited_put c u h from t t' r r' s v b k e l o z te p se sf =
       let te' : t' ≡ ranked_at t (beside c h u) (rank_of t u - 1) = te ∙ ap (λ (x : ℕ). ranked_at t x (rank_of t u - 1)) e in
       subst (λ (x : Tile). Visited spot came c u h t x r r') (sym te')
@@ -111,13 +112,12 @@ module _ {X : Type 0} (spot : X → ℕ) (came : X → Option Direction) where
       }
 
   -- one more deficit cell
-  pub begin_root : (c : ℕ) (t t' : Tile) (r r' : Queue X) (s : X) (i n : ℕ) (b : Bool) → Searching c t (spots spot r) i → length t ≤ capacity r → i < length t → n ≡ length t → rank_of t i ≡ 0 → InDeficit t c i → t' ≡ ranked_at t i n → Enqueued r r' s b → spot s ≡ i → Searching c t' (spots spot r') (i + 1) × (waits r' ≡ waits r ++ s ∷ [])
+  pub begin_root : (c : ℕ) (t t' : Tile) (r r' : Queue X) (s : X) (i n : ℕ) (b : Result ⊤ X) → Searching c t (spots spot r) i → length t ≤ capacity r → i < length t → n ≡ length t → rank_of t i ≡ 0 → InDeficit t c i → t' ≡ ranked_at t i n → Enqueued r r' s b → spot s ≡ i → Searching c t' (spots spot r') (i + 1) × (waits r' ≡ waits r ++ s ∷ [])
   begin_root c t t' r r' s i n b k f l ne z sh te p se =
       let na = not_all t i l z in
       let t1 : Tile = ranked_at t i n in
       let len = length-map (waits r) spot in
-      let yes' : b ≡ true = p.answer ∙ lt-ltb (length (waits r)) (capacity r) (omega (arith, k.few)) in
-      let q : waits r' ≡ waits r ++ s ∷ [] = p.last yes' in
+      let q = last_with_room r r' s b p (omega (arith, k.few)) in
       let qs : spots spot r' ≡ spots spot r ++ i ∷ [] = ap (map spot) q ∙ map_push spot (waits r) s ∙ ap (λ (x : ℕ). spots spot r ++ x ∷ []) se in
       let sh' : InDeficit t1 c i = subst (λ (x : ℤ). x <ℤ pos 0) (sym (remains_level t t1 (level_ranked t i n) c i)) sh in
       let a : Searching c t1 (spots spot r ++ i ∷ []) i = search_add c t (spots spot r) i i n k l z (omega arith) (omega arith) (omega arith) (inl sh') in
@@ -160,9 +160,9 @@ module _ {X : Type 0} (spot : X → ℕ) (came : X → Option Direction) where
   none_some o h a b = let z : ◌≡◌ {A = ℕ} 0 1 = cc in omega arith
 
   -- an entry more, where there is room for it, keeps all inside
-  pub inside_more : (n : ℕ) (q q' : Queue X) (e : X) (b : Bool) → Enqueued q q' e b → spot e < n → All (λ x. spot x < n) (waits q) → All (λ x. spot x < n) (waits q')
-  inside_more n q q' e true p l a = subst (All (λ x. spot x < n)) (sym (p.last refl)) (All-push (λ x. spot x < n) (waits q) e a l)
-  inside_more n q q' e false p l a = subst (λ (k : Queue X). All (λ x. spot x < n) (waits k)) (sym (p.unchanged refl)) a
+  pub inside_more : (n : ℕ) (q q' : Queue X) (e : X) (b : Result ⊤ X) → Enqueued q q' e b → spot e < n → All (λ x. spot x < n) (waits q) → All (λ x. spot x < n) (waits q')
+  inside_more n q q' e (Ok _) p l a = subst (All (λ x. spot x < n)) (sym p.last) (All-push (λ x. spot x < n) (waits q) e a l)
+  inside_more n q q' e (Err _) p l a = subst (λ (k : Queue X). All (λ x. spot x < n) (waits k)) (sym p.unchanged.1) a
 
   -- the same, seen from the tile before
   pub inside_on : (t t' : Tile) (q q' : Queue X) → SameFlows t t' → (AllInside spot t' q → AllInside spot t' q') → AllInside spot t q → AllInside spot t q'

@@ -5,7 +5,6 @@ use Rattle.flow.specs.declared.direction.Direction.{Direction}
 use Rattle.flow.specs.declared.direction.Direction.TheVariants.{Right, Down, Left, Up}
 use Rattle.flow.specs.Sides.{beside, has_beside, opposite, room, Eased}
 use Rattle.queue.specs.declared.Queue.{Queue}
-use Rattle.queue.specs.Queue.{Sound}
 use Rattle.cut.specs.Ranks.{rank_of}
 use Rattle.cut.specs.Searches.{AllInside}
 
@@ -20,5 +19,4 @@ lower_rank t c v = max (max (rank_beside t c v Right) (rank_beside t c v Down)) 
 -- flow has moved with no cell further below 0, and cells have come to wait
 pub record Eases (c : ℕ) (t t' : Tile) (q q' : Queue ℕ) : Type 0 where
   pub eased : Eased c t t'
-  pub well : Sound q'
   pub inside : AllInside (λ x. x) t q → AllInside (λ x. x) t q'

@@ -1,6 +1,5 @@
 // Augmenting paths: flow runs along a shortest residual path from a deficit cell to a surplus cell.
 ghost use Rattle.std.specs.Prelude.{◌<◌, ◌≤◌, length};
-ghost use Rattle.queue.specs.Queue.{Sound};
 ghost use Rattle.flow.specs.Sides.{Admissible, SameFlows, InSurplus, Eased, Cut};
 ghost use Rattle.cut.specs.declared.entry.Step.{Step as Record};
 ghost use Rattle.cut.specs.Ranks.{rank_of};
@@ -19,10 +18,8 @@ use tile::Cell;
 fn seek(tile: &mut [Cell], columns: usize, queue: &mut Queue<Step>) -> Option<Step>
     requires sound { Admissible columns tile.old }
     requires started { Started (λ (s : Record). s.cell) (λ (s : Record). s.side) columns tile.old queue.old }
-    requires well { Sound queue.old }
     ensures level { SameFlows tile.old tile.new }
     ensures sought { Sought columns tile.new result }
-    ensures well { Sound queue.new }
     ensures inside { AllInside (λ (s : Record). s.cell) tile.new queue.new }
 {
     loop {
@@ -57,7 +54,6 @@ fn push_path(tile: &mut [Cell], columns: usize, u: usize) -> usize
 // Goes on with the search, and pushes over what paths are left, until many are blocked.
 fn go_on(tile: &mut [Cell], columns: usize, queue: &mut Queue<Step>)
     requires sound { Admissible columns tile.old }
-    requires well { Sound queue.old }
     requires inside { AllInside (λ (s : Record). s.cell) tile.old queue.old }
     ensures { Eased columns tile.old tile.new }
 {

@@ -1,6 +1,5 @@
 // Push-relabel: flow moves tie by tie towards lower ranks.
 ghost use Rattle.std.specs.Prelude.{◌≡◌, ◌<◌, ◌≤◌, length};
-ghost use Rattle.queue.specs.Queue.{Sound};
 ghost use Rattle.flow.specs.Sides.{Admissible, Eased, Cut};
 ghost use Rattle.cut.specs.Ranks.{ranked_at};
 ghost use Rattle.cut.specs.Searches.{AllInside};
@@ -22,7 +21,6 @@ const ALL: i32 = 20_000;
 fn draw(tile: &mut [Cell], columns: usize, queue: &mut Queue<u16>, v: usize, toward: Direction)
     requires place { v < length tile.old }
     requires sound { Admissible columns tile.old }
-    requires well { Sound queue.old }
     ensures { Eases columns tile.old tile.new queue.old queue.new }
 {
     if !toward.leads_on(tile, columns, v) {
@@ -74,7 +72,6 @@ fn lower(tile: &mut [Cell], columns: usize, v: usize)
 fn draw_all(tile: &mut [Cell], columns: usize, queue: &mut Queue<u16>, v: usize)
     requires place { v < length tile.old }
     requires sound { Admissible columns tile.old }
-    requires well { Sound queue.old }
     ensures { Eases columns tile.old tile.new queue.old queue.new }
 {
     draw(tile, columns, queue, v, Direction::Right);
@@ -88,7 +85,6 @@ fn draw_all(tile: &mut [Cell], columns: usize, queue: &mut Queue<u16>, v: usize)
 fn relieve(tile: &mut [Cell], columns: usize, queue: &mut Queue<u16>, v: usize) -> bool
     requires place { v < length tile.old }
     requires sound { Admissible columns tile.old }
-    requires well { Sound queue.old }
     ensures { Eases columns tile.old tile.new queue.old queue.new }
 {
     draw_all(tile, columns, queue, v);
@@ -105,9 +101,7 @@ fn relieve(tile: &mut [Cell], columns: usize, queue: &mut Queue<u16>, v: usize) 
 // Has the surplus cells that have a rank wait.
 fn collect(tile: &[Cell], columns: usize, queue: &mut Queue<u16>)
     requires sound { Admissible columns tile.now }
-    requires well { Sound queue.old }
     requires inside { AllInside (λ x. x) tile.now queue.old }
-    ensures well { Sound queue.new }
     ensures inside { AllInside (λ x. x) tile.now queue.new }
 {
     for u in 0..tile.len() {

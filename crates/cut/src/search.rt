@@ -1,6 +1,6 @@
 // The search that ranks every cell which residual arcs reach from a deficit cell.
 ghost use Rattle.std.specs.Prelude.{◌≡◌, ℕ, ◌<◌, ◌≤◌, [], length, Some, Decides};
-ghost use Rattle.queue.specs.Queue.{waits, capacity, Sound};
+ghost use Rattle.queue.specs.Queue.{waits, capacity};
 ghost use Rattle.flow.specs.Sides.{Admissible, SameFlows};
 ghost use Rattle.cut.specs.Ranks.{rank_of};
 ghost use Rattle.cut.specs.Searches.{Looks, Visited, Visits, Started, AllInside, Ranked};
@@ -35,10 +35,8 @@ fn visit<E: Entry>(
 )
     requires place { E.Entry.spot entry < length tile.old }
     requires sound { Admissible columns tile.old }
-    requires well { Sound queue.old }
     ensures level { SameFlows tile.old tile.new }
     ensures rooms { capacity queue.new ≡ capacity queue.old }
-    ensures well { Sound queue.new }
     ensures inside { AllInside E.Entry.spot tile.old queue.old → AllInside E.Entry.spot tile.old queue.new }
     ensures search { Looks E.Entry.spot E.Entry.came columns (E.Entry.spot entry) (E.Entry.came entry) tile.old queue.old → Visited E.Entry.spot E.Entry.came columns (E.Entry.spot entry) toward tile.old tile.new queue.old queue.new }
 {
@@ -59,10 +57,8 @@ fn visit<E: Entry>(
 pub(crate) fn visit_all<E: Entry>(tile: &mut [Cell], columns: usize, queue: &mut Queue<E>, entry: E)
     requires place { E.Entry.spot entry < length tile.old }
     requires sound { Admissible columns tile.old }
-    requires well { Sound queue.old }
     ensures level { SameFlows tile.old tile.new }
     ensures rooms { capacity queue.new ≡ capacity queue.old }
-    ensures well { Sound queue.new }
     ensures inside { AllInside E.Entry.spot tile.old queue.old → AllInside E.Entry.spot tile.old queue.new }
     ensures search { Looks E.Entry.spot E.Entry.came columns (E.Entry.spot entry) (E.Entry.came entry) tile.old queue.old → Visits E.Entry.spot E.Entry.came columns (E.Entry.spot entry) tile.old tile.new queue.old queue.new }
 {
@@ -78,9 +74,7 @@ fn begin<E: Entry>(tile: &mut [Cell], columns: usize, queue: &mut Queue<E>)
     requires none { (b : ℕ) → rank_of tile.old b ≡ 0 }
     requires idle { waits queue.old ≡ [] }
     requires rooms { length tile.old ≤ capacity queue.old }
-    requires well { Sound queue.old }
     ensures level { SameFlows tile.old tile.new }
-    ensures well { Sound queue.new }
     ensures started { Started E.Entry.spot E.Entry.came columns tile.new queue.new }
 {
     let n = tile.len();
@@ -97,9 +91,7 @@ pub(crate) fn start_search<E: Entry>(tile: &mut [Cell], columns: usize, queue: &
     requires sound { Admissible columns tile.old }
     requires idle { waits queue.old ≡ [] }
     requires rooms { length tile.old ≤ capacity queue.old }
-    requires well { Sound queue.old }
     ensures level { SameFlows tile.old tile.new }
-    ensures well { Sound queue.new }
     ensures started { Started E.Entry.spot E.Entry.came columns tile.new queue.new }
 {
     clear_ranks(tile);

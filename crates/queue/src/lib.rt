@@ -1,25 +1,26 @@
 #![tactic(auto)]
 
-ghost use Rattle.std.specs.Prelude.{◌≡◌, [], length};
-ghost use Rattle.queue.specs.Queue.{waits, capacity, Sound, Enqueued, Dequeued};
+ghost use Rattle.std.specs.Prelude.{◌≡◌, ◌+◌, ◌%◌, ◌<◌, ◌≤◌, [], length};
 
-mod places;
-
-// A queue, first in, first out, in a ring over slots that the caller lends.
+// A queue, first in, first out, in a ring over slots that the caller lends: a `VecDeque` would need a heap.
 // `len` entries wait, from slot `head` on, and past the last slot from the first one on.
+// No more wait than there are slots, and the head is one of them, if there is any.
 #[derive(Drop)]
 pub struct Queue<'a, T> {
     slots: &'a mut [T],
     head: usize,
     len: usize,
+    ghost fits: { len ≤ length slots.now },
+    ghost inside: { 0 < length slots.now → head < length slots.now },
 }
 
 impl<'a, T: Copy> Queue<'a, T> {
+    ghost use Rattle.queue.specs.Queue.{waits, capacity, Enqueued, Dequeued};
+
     // A queue in which nothing waits, over all the slots. What they hold does not matter.
     pub fn new(slots: &'a mut [T]) -> Queue<'a, T>
         ensures empty { waits result ≡ [] }
         ensures room { capacity result ≡ length slots.old }
-        ensures sound { Sound result }
     {
         Queue {
             slots,
@@ -28,35 +29,47 @@ impl<'a, T: Copy> Queue<'a, T> {
         }
     }
 
-    // Has the entry wait last. Where as many wait as there are slots, answers false and changes nothing.
-    pub fn enqueue(&mut self, entry: T) -> bool
-        requires { Sound self.old }
+    // Has the entry wait last. Where as many wait as there are slots, gives it back and changes nothing.
+    #[tactic(auto, using(crate::proofs::Rings::waiting_more, crate::proofs::Rings::length_waiting, std::proofs::lemmas::Grind::common_steps))]
+    pub fn enqueue(&mut self, entry: T) -> Result<(), T>
         ensures { Enqueued self.old self.new entry result }
     {
-        let count = self.slots.len();
-        if !places::has_room(self.len, count) {
-            return false;
+        let len = self.len;
+        if len >= self.slots.len() {
+            return Err(entry);
         }
-        let last = places::place_past(self.head, self.len, count);
-        places::store(self.slots, last, entry);
+        let last = self.past_head(len);
+        self.slots[last] = entry;
         self.len += 1;
-        true
+        Ok(())
     }
 
     // Serves the entry that has waited longest. Where nothing waits, answers None and changes nothing.
+    #[tactic(auto, using(crate::proofs::Rings::waiting_less))]
     pub fn dequeue(&mut self) -> Option<T>
-        requires { Sound self.old }
         ensures { Dequeued self.old self.new result }
     {
         if self.len == 0 {
             return None;
         }
-        let count = self.slots.len();
-        let first = places::oldest(self.head, self.len, count);
-        let entry = places::take_out(self.slots, first);
-        self.head = places::place_past(first, 1, count);
+        let entry = self.slots[self.head];
+        self.head = self.past_head(1);
         self.len -= 1;
         Some(entry)
+    }
+
+    // The slot `steps` past the head, round the end of the ring; no sum overflows, however many slots there are.
+    fn past_head(&self, steps: usize) -> usize
+        requires some { 0 < capacity self.now }
+        requires once { steps ≤ capacity self.now }
+        ensures { result ≡ (self.now.head + steps) % capacity self.now }
+    {
+        let left = self.slots.len() - self.head;
+        if steps < left {
+            self.head + steps
+        } else {
+            steps - left
+        }
     }
 }
 
@@ -75,11 +88,13 @@ mod tests {
     fn turned<T: Copy>(rt: &impl Abort, slots: &mut [T; 3], entries: [T; 4]) -> [Option<T>; 5] {
         let mut queue = Queue::new(slots);
         assert!(rt;
-            queue.enqueue(entries[0]) && queue.enqueue(entries[1]) && queue.enqueue(entries[2])
+            queue.enqueue(entries[0]).is_ok()
+                && queue.enqueue(entries[1]).is_ok()
+                && queue.enqueue(entries[2]).is_ok()
         );
-        assert!(rt; !queue.enqueue(entries[3]));
+        assert!(rt; queue.enqueue(entries[3]).is_err());
         let first = queue.dequeue();
-        assert!(rt; queue.enqueue(entries[3]));
+        assert!(rt; queue.enqueue(entries[3]).is_ok());
         [
             first,
             queue.dequeue(),

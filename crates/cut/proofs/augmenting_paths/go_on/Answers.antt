@@ -10,13 +10,13 @@ rest_inside : (n : ℕ) (s : Step) (xs ys : List Step) → xs ≡ s ∷ ys → A
 rest_inside n s xs ys e a = let b : All (λ (x : Step). x.cell < n) (s ∷ ys) = subst (All (λ (x : Step). x.cell < n)) e a in (b.0, b.1)
 
 pub loop-init : goal.loop-init
-loop-init c = (eased_self _ _ c.requires.sound, c.requires.well, c.requires.inside)
+loop-init c = (eased_self _ _ c.requires.sound, c.requires.inside)
 
 pub push_path-requires : goal.push_path-requires
 push_path-requires c =
     let inv = c.loop.invariant in
     let d = c.in-Some.ensures in
-    let i = rest_inside (length c.args.tile.now) c.in-Some.field-0 (waits c.loop.queue) (waits c.dequeue.new.self) d.first inv.2 in
+    let i = rest_inside (length c.args.tile.now) c.in-Some.field-0 (waits c.loop.queue) (waits c.dequeue.new.self) d.first inv.1 in
     record { place = omega (arith, inv.0.still.long, i.0); sound = inv.0.sound }
 
 pub visit_all-requires : goal.visit_all-requires
@@ -24,8 +24,8 @@ visit_all-requires c =
     let inv = c.loop.invariant in
     let d = c.in-Some.ensures in
     let e = c.push_path.ensures.eased in
-    let i = rest_inside (length c.args.tile.now) c.in-Some.field-0 (waits c.loop.queue) (waits c.dequeue.new.self) d.first inv.2 in
-    record { place = omega (arith, inv.0.still.long, e.still.long, i.0); sound = e.sound; well = d.sound }
+    let i = rest_inside (length c.args.tile.now) c.in-Some.field-0 (waits c.loop.queue) (waits c.dequeue.new.self) d.first inv.1 in
+    record { place = omega (arith, inv.0.still.long, e.still.long, i.0); sound = e.sound }
 
 pub loop-preserved : goal.loop-preserved
 loop-preserved c =
@@ -33,9 +33,8 @@ loop-preserved c =
     let d = c.in-Some.ensures in
     let e = eased_trans _ _ _ _ inv.0 c.push_path.ensures.eased in
     let long : length c.push_path.new.tile ≡ length c.args.tile.now = e.still.long in
-    let i = rest_inside (length c.args.tile.now) c.in-Some.field-0 (waits c.loop.queue) (waits c.dequeue.new.self) d.first inv.2 in
+    let i = rest_inside (length c.args.tile.now) c.in-Some.field-0 (waits c.loop.queue) (waits c.dequeue.new.self) d.first inv.1 in
     let j = subst (λ (n : ℕ). All (λ (x : Step). x.cell < n) (waits c.dequeue.new.self)) (sym long) i.1 in (
       eased_trans _ _ _ _ e (eased_level _ _ _ c.visit_all.ensures.level e.sound),
-      c.visit_all.ensures.well,
       subst (λ (n : ℕ). All (λ (x : Step). x.cell < n) (waits c.visit_all.new.queue)) long (c.visit_all.ensures.inside j),
     )

@@ -14,7 +14,7 @@ use Rattle.cut.proofs.Visiting.{seek_looks, calm_after, load_pop, unmapped, all_
 use Rattle.cut.proofs.augmenting_paths.seek.Goals as goal
 
 pub loop-cell-init : goal.loop-cell-init
-loop-cell-init c = (level_self _, c.requires.sound, c.requires.started.search, c.requires.started.rooms, c.requires.started.backs, λ x p. inr (c.requires.started.roots x p), c.requires.well)
+loop-cell-init c = (level_self _, c.requires.sound, c.requires.started.search, c.requires.started.rooms, c.requires.started.backs, λ x p. inr (c.requires.started.roots x p))
 
 pub returns-in_default : goal.returns-in_default
 returns-in_default c =
@@ -27,7 +27,6 @@ returns-in_default c =
         subst (λ (x : List ℕ). Searching c.args.columns c.loop-cell.tile x (length c.loop-cell.tile)) q inv.2,
         λ u l p. ⊎_elim (λ (a : Among u (spots (λ (s : Step). s.cell) c.loop-cell.queue)). absurd (subst (λ (x : List ℕ). Among u x) q a)) (λ (f : InSurplus c.loop-cell.tile c.args.columns u → ⊥). f) (inv.5 u p),
       );
-      well = d.sound;
       inside = subst (λ (x : Queue Step). All (λ e. e.cell < length c.loop-cell.tile) (waits x)) (sym d.unchanged) (all_inside (λ (s : Step). s.cell) (λ (s : Step). s.side) c.args.columns c.loop-cell.tile c.loop-cell.queue (length c.loop-cell.tile) inv.2);
     }
 
@@ -43,7 +42,6 @@ returns-then-remainder-gt0 c =
     record {
       level = inv.0;
       sought = (k.search.inside.0.0, subst (λ (z : ℤ). pos 0 <ℤ z) c.remainder.ensures.value more, λ u l h. tree u l (omega arith));
-      well = c.in-Some.ensures.sound;
       inside = unmapped (λ (s : Step). s.cell) (λ (s : Step). s.side) (λ (x : ℕ). x < length c.loop-cell.tile) (waits c.dequeue.new.self) (All-weaker (λ (x : ℕ). (x < length c.loop-cell.tile) × (0 < rank_of c.loop-cell.tile x)) (λ (x : ℕ). x < length c.loop-cell.tile) (λ x i. i.0) (spots (λ (s : Step). s.cell) c.dequeue.new.self) k.search.inside.1);
     }
 
@@ -71,7 +69,6 @@ loop-cell-preserved c =
       omega (arith, lv.long, c.visit_all.ensures.rooms, k.rooms),
       v.backs,
       calm_after (λ (s : Step). s.cell) (λ (s : Step). s.side) c.args.columns c.loop-cell.tile c.visit_all.new.tile c.loop-cell.queue c.dequeue.new.self c.visit_all.new.queue c.in-Some.field-0 inv.5 first no' v,
-      c.visit_all.ensures.well,
     )
 
 pub visit_all-requires : goal.visit_all-requires
@@ -79,7 +76,7 @@ visit_all-requires c =
     let inv = c.loop-cell.invariant in
     let d = c.in-Some.ensures in
     let k = seek_looks (λ (s : Step). s.cell) (λ (s : Step). s.side) c.args.columns c.loop-cell.tile c.loop-cell.queue c.dequeue.new.self c.in-Some.field-0 inv.2 inv.3 inv.4 d.first d.room in
-    record { place = k.search.inside.0.0; sound = inv.1; well = d.sound }
+    record { place = k.search.inside.0.0; sound = inv.1 }
 
 pub remainder-requires : goal.remainder-requires
 remainder-requires c =

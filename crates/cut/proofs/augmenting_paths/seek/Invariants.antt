@@ -1,7 +1,7 @@
 use Rattle.std.proofs.Common.{ℕ, ◌<◌, ◌≤◌, ◌⊎◌, length}
 use Rattle.std.specs.List.{AllByRecursion as All}
 use Rattle.queue.specs.Queue.{waits}
-use Rattle.queue.specs.Queue.{capacity, Sound}
+use Rattle.queue.specs.Queue.{capacity}
 use Rattle.flow.specs.Sides.{SameFlows, Admissible, InSurplus}
 use Rattle.cut.specs.declared.entry.Step.{Step}
 use Rattle.cut.specs.Ranks.{rank_of}
@@ -16,7 +16,6 @@ invariant-loop-cell l =
     × (length l.tile ≤ capacity l.queue)
     × All (Backed (λ (s : Step). s.cell) (λ (s : Step). s.side) l.columns l.tile) (waits l.queue)
     × ((x : ℕ) → 0 < rank_of l.tile x → Among x (spots (λ (s : Step). s.cell) l.queue) ⊎ (InSurplus l.tile l.columns x → ⊥))
-    × Sound l.queue
 
 abbrev pub decreases-loop-cell : goal.decreases-loop-cell
 decreases-loop-cell l = load l.tile (spots (λ (s : Step). s.cell) l.queue)

@@ -13,11 +13,10 @@ start_search-requires c = record {
   sound = c.requires.sound;
   idle = c.new-queue.ensures.empty;
   rooms = omega (arith, c.requires.rooms, c.new-queue.ensures.room);
-  well = c.new-queue.ensures.sound;
 }
 
 pub seek-requires : goal.seek-requires
-seek-requires c = record { sound = sound_level _ _ _ c.start_search.ensures.level c.requires.sound; started = c.start_search.ensures.started; well = c.start_search.ensures.well }
+seek-requires c = record { sound = sound_level _ _ _ c.start_search.ensures.level c.requires.sound; started = c.start_search.ensures.started }
 
 pub returns-in_default : goal.returns-in_default
 returns-in_default c =
@@ -35,7 +34,7 @@ push_path-requires c =
 pub visit_all-requires : goal.visit_all-requires
 visit_all-requires c =
     let e = c.push_path.ensures.eased in
-    record { place = omega (arith, e.still.long, c.in-Some.ensures.sought.0); sound = e.sound; well = c.in-Some.ensures.well }
+    record { place = omega (arith, e.still.long, c.in-Some.ensures.sought.0); sound = e.sound }
 
 pub go_on-requires : goal.go_on-requires
 go_on-requires c =
@@ -44,7 +43,6 @@ go_on-requires c =
     let j = subst (λ (n : ℕ). All (λ (x : Step). x.cell < n) (waits c.seek.new.queue)) (sym e.still.long) c.in-Some.ensures.inside in
     record {
       sound = sound_level _ _ _ v.level e.sound;
-      well = v.well;
       inside = subst (λ (n : ℕ). All (λ (x : Step). x.cell < n) (waits c.visit_all.new.queue)) (sym v.level.long) (v.inside j);
     }
 

@@ -9,8 +9,7 @@ loop-u-preserved c =
     elim c.if-tile-u-gt0.branch [
       | then-tile-u-gt0+then-remainder-gt0 w ↦
           rw w.queue-is (
-            w.enqueue.ensures.sound,
-            inside_more (λ x. x) (λ _. None) (length c.args.tile.now) c.loop-u.queue w.enqueue.new.self c.loop-u.u w.enqueue.result w.enqueue.ensures (omega arith) inv.1,
+          inside_more (λ x. x) (λ _. None) (length c.args.tile.now) c.loop-u.queue w.enqueue.new.self c.loop-u.u w.enqueue.result w.enqueue.ensures (omega arith) inv
           )
-      | else-tile-u-gt0 w ↦ rw w.queue-is (inv.0, inv.1)
+      | else-tile-u-gt0 w ↦ rw w.queue-is inv
     ]

@@ -21,4 +21,4 @@ returns-then-tile-v-gt0 c =
 pub returns-else-tile-v-gt0 : goal.returns-else-tile-v-gt0
 returns-else-tile-v-gt0 c =
     let d = c.draw_all.ensures in
-    record { eased = eased_ranked _ _ _ _ _ _ d.eased c.lower.ensures; well = d.well; inside = d.inside }
+    record { eased = eased_ranked _ _ _ _ _ _ d.eased c.lower.ensures; inside = d.inside }

@@ -45,11 +45,10 @@ loop-u-preserved g c =
                 let r = ap (λ (x : Tile). rank_of x b) te ∙ rank_other t i (length c.args.tile.now) b e in
                 subst (λ (x : ℤ). x <ℤ pos 0) (sym same) (inv.6 b (subst (λ (x : ℕ). 0 < x) r p)))
                 (cases_eq b i)),
-            w.enqueue.ensures.sound,
           )
       | else-in_deficit w ↦
           let s = begin_not c.args.columns t (spots g.E.Entry.spot c.loop-u.queue) i inv.2 (λ h. less_false _ _ (sym c.in_deficit.ensures ∙ w.if-in_deficit.false) h) in
-          rw (w.tile-is, w.queue-is) (inv.0, inv.1, s, (λ b l. inv.3 b (omega arith)), inv.4, inv.5, inv.6, inv.7)
+          rw (w.tile-is, w.queue-is) (inv.0, inv.1, s, (λ b l. inv.3 b (omega arith)), inv.4, inv.5, inv.6)
     ]
 
 pub returns : goal.returns
@@ -59,7 +58,6 @@ returns g c =
     let e : c.loop-u.u ≡ length c.loop-u.tile = omega arith in
     record {
       level = inv.0;
-      well = inv.7;
       started = record {
         search = subst (λ (x : ℕ). Searching c.args.columns c.loop-u.tile (spots g.E.Entry.spot c.loop-u.queue) x) e inv.2;
         rooms = omega (arith, inv.4, c.requires.rooms);

@@ -1,7 +1,7 @@
 use Rattle.std.proofs.Common.{◌≡◌, ℕ, ◌<◌, ◌≤◌, None}
 use Rattle.std.specs.List.{AllByRecursion as All}
 use Rattle.queue.specs.Queue.{waits}
-use Rattle.queue.specs.Queue.{capacity, Sound}
+use Rattle.queue.specs.Queue.{capacity}
 use Rattle.flow.specs.Sides.{SameFlows, Admissible, InDeficit}
 use Rattle.cut.specs.Ranks.{rank_of}
 use Rattle.cut.specs.Searches.{Searching, spots}
@@ -16,4 +16,3 @@ invariant-loop-u g l =
     × (capacity l.queue ≡ capacity l.initial.queue)
     × All (λ s. g.E.Entry.came s ≡ None) (waits l.queue)
     × ((b : ℕ) → 0 < rank_of l.tile b → InDeficit l.tile l.columns b)
-    × Sound l.queue

@@ -10,13 +10,12 @@ start_search-requires g c = record {
   sound = c.requires.sound;
   idle = c.new-queue.ensures.empty;
   rooms = omega (arith, c.requires.rooms, c.new-queue.ensures.room);
-  well = c.new-queue.ensures.sound;
 }
 
 pub loop-entry-init : goal.loop-entry-init
 loop-entry-init g c =
     let s = c.start_search.ensures.started in
-    (level_self _, sound_level _ _ _ c.start_search.ensures.level c.requires.sound, s.search, s.rooms, s.backs, c.start_search.ensures.well)
+    (level_self _, sound_level _ _ _ c.start_search.ensures.level c.requires.sound, s.search, s.rooms, s.backs)
 
 pub returns-in_default : goal.returns-in_default
 returns-in_default g c =
@@ -31,7 +30,7 @@ visit_all-requires g c =
     let inv = c.loop-entry.invariant in
     let d = c.in-Some.ensures in
     let k = seek_looks g.E.Entry.spot g.E.Entry.came c.args.columns c.loop-entry.tile c.loop-entry.queue c.dequeue.new.self c.in-Some.entry inv.2 inv.3 inv.4 d.first d.room in
-    record { place = k.search.inside.0.0; sound = inv.1; well = d.sound }
+    record { place = k.search.inside.0.0; sound = inv.1 }
 
 pub loop-entry-smaller : goal.loop-entry-smaller
 loop-entry-smaller g c =
@@ -47,4 +46,4 @@ loop-entry-preserved g c =
     let k = seek_looks g.E.Entry.spot g.E.Entry.came c.args.columns c.loop-entry.tile c.loop-entry.queue c.dequeue.new.self c.in-Some.entry inv.2 inv.3 inv.4 d.first d.room in
     let v = c.visit_all.ensures.search k in
     let lv = c.visit_all.ensures.level in
-    (level_trans _ _ _ inv.0 lv, sound_level _ _ _ lv inv.1, v.keeps, omega (arith, lv.long, c.visit_all.ensures.rooms, k.rooms), v.backs, c.visit_all.ensures.well)
+    (level_trans _ _ _ inv.0 lv, sound_level _ _ _ lv inv.1, v.keeps, omega (arith, lv.long, c.visit_all.ensures.rooms, k.rooms), v.backs)

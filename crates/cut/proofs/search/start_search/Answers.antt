@@ -12,12 +12,10 @@ begin-requires g c =
       none = c.clear_ranks.ensures.none;
       idle = c.requires.idle;
       rooms = omega (arith, c.requires.rooms);
-      well = c.requires.well;
     }
 
 pub returns : goal.returns
 returns g c = record {
   level = level_trans _ _ _ c.clear_ranks.ensures.level c.begin.ensures.level;
-  well = c.begin.ensures.well;
   started = c.begin.ensures.started;
 }

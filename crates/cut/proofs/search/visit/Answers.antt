@@ -14,7 +14,6 @@ pub returns-then-is_back : goal.returns-then-is_back
 returns-then-is_back g c = record {
   level = level_self c.args.tile.now;
   rooms = refl;
-  well = c.requires.well;
   inside = λ a. a;
   search = λ k. visited_none g.E.Entry.spot g.E.Entry.came c.args.columns (g.E.Entry.spot c.args.entry) c.args.toward (g.E.Entry.came c.args.entry) c.args.tile.now c.args.queue.now k (λ o.
       elim c.then-is_back.branch [
@@ -31,7 +30,6 @@ returns-then-tile-v-ne0 g c =
     record {
       level = level_self c.args.tile.now;
       rooms = refl;
-      well = c.requires.well;
       inside = λ a. a;
       search = λ k. visited_none g.E.Entry.spot g.E.Entry.came c.args.columns (g.E.Entry.spot c.args.entry) c.args.toward (g.E.Entry.came c.args.entry) c.args.tile.now c.args.queue.now k (λ _. subst (λ (x : ℕ). 0 < rank_of c.args.tile.now x) v (omega (arith, c.if-tile-v-ne0.true)));
     }
@@ -49,7 +47,6 @@ returns g c =
     record {
       level = subst (λ (x : Tile). SameFlows c.args.tile.now x) (sym te) (level_ranked c.args.tile.now c.from-v.result (rank_of c.args.tile.now (g.E.Entry.spot c.args.entry) - 1));
       rooms = c.enqueue.ensures.room;
-      well = c.enqueue.ensures.sound;
       inside = inside_more g.E.Entry.spot g.E.Entry.came (length c.args.tile.now) c.args.queue.now c.enqueue.new.self c.reached.result c.enqueue.result c.enqueue.ensures (omega (arith, se, c.from-v.ensures.place));
       search = λ k. visited_put g.E.Entry.spot g.E.Entry.came c.args.columns (g.E.Entry.spot c.args.entry) c.args.toward (g.E.Entry.came c.args.entry) c.args.tile.now c.put_rank.new.tile c.args.queue.now c.enqueue.new.self c.reached.result c.from-v.result c.enqueue.result k v c.from-v.ensures.place o c.if-tile-v-ne0.false te c.enqueue.ensures se
           (λ h e. c.reached.ensures.back h e ∙ c.opposite.ensures);

@@ -7,17 +7,17 @@ use Rattle.cut.proofs.search.visit_all.Goals as goal
 pub visit-requires-2 : goal.visit-requires-2
 visit-requires-2 g c =
     let l = c.visit.ensures.level in
-    record { place = omega (arith, l.long, c.requires.place); sound = sound_level _ _ _ l c.requires.sound; well = c.visit.ensures.well }
+    record { place = omega (arith, l.long, c.requires.place); sound = sound_level _ _ _ l c.requires.sound }
 
 pub visit-requires-3 : goal.visit-requires-3
 visit-requires-3 g c =
     let l = level_trans _ _ _ c.visit.ensures.level c.visit-2.ensures.level in
-    record { place = omega (arith, l.long, c.requires.place); sound = sound_level _ _ _ l c.requires.sound; well = c.visit-2.ensures.well }
+    record { place = omega (arith, l.long, c.requires.place); sound = sound_level _ _ _ l c.requires.sound }
 
 pub visit-requires-4 : goal.visit-requires-4
 visit-requires-4 g c =
     let l = level_trans _ _ _ (level_trans _ _ _ c.visit.ensures.level c.visit-2.ensures.level) c.visit-3.ensures.level in
-    record { place = omega (arith, l.long, c.requires.place); sound = sound_level _ _ _ l c.requires.sound; well = c.visit-3.ensures.well }
+    record { place = omega (arith, l.long, c.requires.place); sound = sound_level _ _ _ l c.requires.sound }
 
 pub returns : goal.returns
 returns g c =
@@ -29,7 +29,6 @@ returns g c =
     record {
       level = level_trans _ _ _ l3 c.visit-4.ensures.level;
       rooms = c.visit-4.ensures.rooms ∙ c.visit-3.ensures.rooms ∙ c.visit-2.ensures.rooms ∙ c.visit.ensures.rooms;
-      well = c.visit-4.ensures.well;
       inside = λ a0.
           let a1 = c.visit.ensures.inside a0 in
           let a2 = inside_on g.E.Entry.spot g.E.Entry.came c.args.tile.now c.visit.new.tile c.visit.new.queue c.visit-2.new.queue l1 c.visit-2.ensures.inside a1 in

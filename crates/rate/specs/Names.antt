@@ -1,7 +1,10 @@
 -- What the candidates are called.
-use Rattle.std.specs.Prelude.{ℕ, cond, List, Some, None, codes, Option, ◌==◌}
+use Rattle.std.specs.Prelude.{ℕ, List, codes}
+use Rattle.rate.specs.declared.candidate.Candidate.{Candidate}
+use Rattle.rate.specs.declared.candidate.Candidate.TheVariants.{Readings, Flat, Wall}
 
--- the name of the candidate at a place, as text
-abbrev pub candidate_name : Option ℕ → List ℕ
-candidate_name None = codes "none"
-candidate_name (Some i) = cond (i == 0) (codes "readings") (cond (i == 1) (codes "flat") (cond (i == 2) (codes "wall") (codes "none")))
+-- the name of a candidate, as text
+abbrev pub candidate_name : Candidate → List ℕ
+candidate_name Readings = codes "readings"
+candidate_name Flat = codes "flat"
+candidate_name Wall = codes "wall"

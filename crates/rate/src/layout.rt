@@ -24,13 +24,8 @@ fn fresh_record(shape: Shape, at: usize, reading: u16, class: u8, tie: u16) -> C
         class,
         right: even_tie(shape, at, Side::Rightward, tie),
         down: even_tie(shape, at, Side::Downward, tie),
-        right_flow: 0,
-        down_flow: 0,
-        low: 0,
         high: shape.top(),
-        charge: 0,
-        mark: 0,
-        rank: 0,
+        ..Cell::default()
     }
 }
 
@@ -48,8 +43,8 @@ pub fn lay_out(
     if tile.len() < cells || readings.len() < cells {
         return Err(Refusal::FewRecords);
     }
-    for at in 0..cells {
-        tile[at] = fresh_record(shape, at, readings[at], class, tie);
+    for (at, reading) in readings[..cells].iter().enumerate() {
+        tile[at] = fresh_record(shape, at, *reading, class, tie);
     }
     Ok(())
 }

@@ -1,9 +1,7 @@
 // Rates three candidate grids for a sample tile under the three price rules.
 #![tactic(auto)]
 
-ghost use Rattle.std.specs.Prelude.{◌≡◌};
-ghost use Rattle.rate.specs.Names.{candidate_name};
-
+mod candidate;
 mod job;
 mod layout;
 mod rating;
@@ -13,21 +11,9 @@ use job::Job;
 use job::made::job_of;
 use limits::Refusal;
 use price::PriceRule;
-use rating::{energies, place_of_least};
+use rating::{cheapest, energies};
 use std::io;
 use tile::{Cell, Shape};
-
-// The name of a candidate, by its place.
-fn name(place: Option<usize>) -> &'static str
-    ensures { result.now ≡ candidate_name place }
-{
-    match place {
-        Some(0) => "readings",
-        Some(1) => "flat",
-        Some(2) => "wall",
-        _ => "none",
-    }
-}
 
 // One line: the rule, the energy of each candidate, and the name of the cheapest.
 fn print_rates<P: PriceRule>(
@@ -46,7 +32,7 @@ fn print_rates<P: PriceRule>(
         &sample::WALL,
     ) {
         Ok(energies) => {
-            let cheapest = name(place_of_least(&energies));
+            let cheapest = cheapest(&energies);
             let [readings, flat, wall] = energies;
             println!(rt; "{rule_name} {readings} {flat} {wall} {cheapest}")
         }

@@ -1,9 +1,9 @@
 // What candidate grids cost under a price rule, and which is the cheapest.
-ghost use Rattle.std.specs.Prelude.{◌≡◌, ◌<◌, length};
-ghost use Rattle.rate.specs.Choices.{lesser_place, PicksLeast};
+ghost use Rattle.rate.specs.Choices.{PicksLeast, PicksCheapest};
 ghost use Rattle.tile.specs.Rating.{Rated};
 ghost use Rattle.rate.specs.Rates.{Rates};
 
+use crate::candidate::Candidate;
 use limits::Refusal;
 use price::PriceRule;
 use tile::{Cell, HeightList, Shape, energy};
@@ -37,18 +37,6 @@ pub fn energies<P: PriceRule>(
     Ok([a, b, c])
 }
 
-// Of two places the one with the lesser number, the first where they are equal.
-fn lesser_place(numbers: &[u64], first: usize, second: usize) -> usize
-    requires { (first < length numbers.now) × (second < length numbers.now) }
-    ensures { result ≡ lesser_place numbers.now first second }
-{
-    if numbers[second] < numbers[first] {
-        second
-    } else {
-        first
-    }
-}
-
 // The place of the least number, of the first where several are least.
 pub fn place_of_least(numbers: &[u64]) -> Option<usize>
     ensures { PicksLeast numbers.now result }
@@ -56,9 +44,22 @@ pub fn place_of_least(numbers: &[u64]) -> Option<usize>
     if numbers.is_empty() {
         return None;
     }
+    // A chain with `min_by_key` does not say that it picks the first of equals.
     let mut best = 0;
     for at in 1..numbers.len() {
-        best = lesser_place(numbers, best, at);
+        if numbers[at] < numbers[best] {
+            best = at;
+        }
     }
     Some(best)
+}
+
+// The candidate with the least energy, the first where several have it.
+pub fn cheapest(energies: &[u64; 3]) -> Candidate
+    ensures { PicksCheapest energies.now result }
+{
+    match place_of_least(energies) {
+        Some(at) => Candidate::ALL[at],
+        None => Candidate::Readings,
+    }
 }

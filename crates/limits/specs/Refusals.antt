@@ -1,5 +1,6 @@
--- The number of each refusal.
-use Rattle.std.specs.Prelude.{ℕ}
+-- The number and the text of each refusal.
+use Rattle.std.specs.Prelude.{ℕ, List, ◌++◌, codes}
+use Rattle.std.specs.Fmt.{decimal}
 use Rattle.limits.specs.declared.refusal.Refusal.{Refusal}
 use Rattle.limits.specs.declared.refusal.Refusal.TheVariants.{Range, FewRecords, Corrupt, Outside, Reading, Tie, FewEntries, Ceiling, NoRoundLeft, RoundsLeft}
 
@@ -15,3 +16,7 @@ number FewEntries = 7
 number Ceiling = 8
 number NoRoundLeft = 9
 number RoundsLeft = 10
+
+-- what a refusal prints
+abbrev pub refusal_text : Refusal → List ℕ
+refusal_text refusal = codes "refused " ++ decimal (number refusal)

@@ -2,28 +2,31 @@
 ghost use Rattle.std.specs.Prelude.{◌≡◌};
 ghost use Rattle.limits.specs.Refusals.{number};
 
+use std::error::Error;
+use std::fmt;
+
 #[derive(Clone, Copy, PartialEq, Eq, Debug)]
 pub enum Refusal {
     // Rows, columns, top or the greatest level of a price rule is out of range.
-    Range,
+    Range = 1,
     // There are fewer records than the tile has cells.
-    FewRecords,
+    FewRecords = 2,
     // A reading, class, tie or bracket is not as the tile's rules say.
-    Corrupt,
+    Corrupt = 3,
     // The row or the column lies outside the tile.
-    Outside,
+    Outside = 4,
     // The reading is above the tile's top, or the class above the greatest class.
-    Reading,
+    Reading = 5,
     // The tie is above the greatest tie, or is not 0 where the tile ends.
-    Tie,
+    Tie = 6,
     // There are fewer entries of workspace than the tile has cells.
-    FewEntries,
+    FewEntries = 7,
     // The greatest level of the price rule is below the tile's top.
-    Ceiling,
+    Ceiling = 8,
     // All rounds that are due are done.
-    NoRoundLeft,
+    NoRoundLeft = 9,
     // Rounds that are due are not done.
-    RoundsLeft,
+    RoundsLeft = 10,
 }
 
 impl Refusal {
@@ -31,17 +34,19 @@ impl Refusal {
     pub fn number(self) -> u8
         ensures { result ≡ number self }
     {
-        match self {
-            Refusal::Range => 1,
-            Refusal::FewRecords => 2,
-            Refusal::Corrupt => 3,
-            Refusal::Outside => 4,
-            Refusal::Reading => 5,
-            Refusal::Tie => 6,
-            Refusal::FewEntries => 7,
-            Refusal::Ceiling => 8,
-            Refusal::NoRoundLeft => 9,
-            Refusal::RoundsLeft => 10,
-        }
+        self as u8
     }
 }
+
+impl fmt::Display for Refusal {
+    ghost use Rattle.std.specs.Prelude.{Some};
+    ghost use Rattle.limits.specs.Refusals.{refusal_text};
+
+    ghost output = { λ refusal. Some (refusal_text refusal) };
+
+    fn fmt<W: fmt::Write>(&self, f: &mut fmt::Formatter<W>) -> fmt::Result {
+        write!(f, "refused {}", self.number())
+    }
+}
+
+impl Error for Refusal {}

@@ -1,15 +1,15 @@
--- The shapes of the three prices, and so the laws of the three rules.
-use Rattle.std.specs.Prelude.{◌≡◌, ℕ, ◌+◌, ◌-◌, ◌*◌, ◌<◌, ◌≤◌, cond, nat_le}
+-- The shapes of the three prices, and so their steps and the laws of the three rules.
+use Rattle.std.specs.Prelude.{◌≡◌, ℕ, ◌+◌, ◌-◌, ◌*◌, ◌≤◌, cond, nat_le, pos, neg_ℤ}
 use Rattle.std.proofs.Common.{ap, ◌∙◌, inl, inr, mul-add, add-mul, mul-one, arith}
 use Rattle.std.proofs.lemmas.Nat.{mul-le}
 use Rattle.std.proofs.lemmas.Bool.{cases_lt, le-leb, lt-leb}
-use Rattle.limits.specs.Limits.{most_top, most_class, most_step}
-use Rattle.price.specs.Rules.{Lawful}
+use Rattle.limits.specs.Limits.{most_top, most_class, most_price, most_step}
+use Rattle.price.specs.Rules.{Lawful, price_step}
 use Rattle.price.specs.Weights.{class_weight, most_weight}
 use Rattle.theory.specs.Grids.{gap}
-use Rattle.price.specs.Kinds.{absolute, squared, leaning}
+use Rattle.price.specs.Kinds.{absolute, squared, leaning, absolute_price, squared_price, leaning_price}
 use Rattle.price.specs.Making.{RuleLevel}
-use Rattle.price.specs.Shapes.{Shape, lawful}
+use Rattle.price.specs.Shapes.{Shape, step_by_side, lawful}
 
 pub weight_most : (q : ℕ) → q ≤ most_class → class_weight q ≤ most_weight
 weight_most q h =
@@ -27,6 +27,9 @@ absolute_shape t = record {
   up_more = λ _. omega arith;
   down_more = λ _. omega arith;
 }
+
+pub absolute_step : (v q k : ℕ) → price_step absolute_price v q k ≡ cond (nat_le v k) (pos (class_weight q)) (neg_ℤ (pos (class_weight q)))
+absolute_step v q k = step_by_side (absolute_shape (class_weight q)) v k
 
 pub absolute_lawful : (t : ℕ) → RuleLevel t → Lawful (absolute t)
 absolute_lawful t level = lawful (absolute t) level (record {
@@ -49,8 +52,13 @@ square_step t a b n e f =
 odd_more : (t n : ℕ) → t * (2 * n + 1) ≤ t * (2 * (n + 1) + 1)
 odd_more t n = mul-le t (2 * n + 1) t (2 * (n + 1) + 1) (omega arith) (omega arith)
 
-pub odd_most : (q n : ℕ) → q ≤ most_class → n < most_top → class_weight q * (2 * n + 1) ≤ most_step
-odd_most q n h l = omega (arith, mul-le (class_weight q) (2 * n + 1) most_weight (2 * most_top) (weight_most q h) (omega arith))
+pub odd_most : (q n : ℕ) → q ≤ most_class → n ≤ most_top → class_weight q * (2 * n + 1) ≤ most_step
+odd_most q n h l = omega (arith, mul-le (class_weight q) (2 * n + 1) most_weight (2 * most_top + 1) (weight_most q h) (omega arith))
+
+pub squared_most : (v q k : ℕ) → v ≤ most_top → q ≤ most_class → k ≤ most_top → squared_price v q k ≤ most_price
+squared_most v q k a b c =
+    let square : gap k v * gap k v ≤ most_top * most_top = mul-le (gap k v) (gap k v) most_top most_top (omega arith) (omega arith) in
+    omega (arith, mul-le (class_weight q) (gap k v * gap k v) most_weight (most_top * most_top) (weight_most q b) square)
 
 pub squared_shape : (t : ℕ) → Shape (λ v k. t * (gap k v * gap k v)) (λ n. t * (2 * n + 1)) (λ n. t * (2 * n + 1))
 squared_shape t = record {
@@ -60,6 +68,11 @@ squared_shape t = record {
   down_more = odd_more t;
 }
 
+pub squared_step : (v q k : ℕ) →
+    price_step squared_price v q k
+    ≡ cond (nat_le v k) (pos (class_weight q * (2 * (k - v) + 1))) (neg_ℤ (pos (class_weight q * (2 * (v - k - 1) + 1))))
+squared_step v q k = step_by_side (squared_shape (class_weight q)) v k
+
 pub squared_lawful : (t : ℕ) → RuleLevel t → Lawful (squared t)
 squared_lawful t level = lawful (squared t) level (record {
   up = λ q n. class_weight q * (2 * n + 1);
@@ -67,9 +80,7 @@ squared_lawful t level = lawful (squared t) level (record {
   shape = λ q. squared_shape (class_weight q);
   up_most = λ q n b l. odd_most q n b (omega arith);
   down_most = λ q n b l. odd_most q n b (omega arith);
-  price_most = λ v q k a b c.
-      (let square : gap k v * gap k v ≤ most_top * most_top = mul-le (gap k v) (gap k v) most_top most_top (omega arith) (omega arith) in
-      omega (arith, mul-le (class_weight q) (gap k v * gap k v) most_weight (most_top * most_top) (weight_most q b) square));
+  price_most = λ v q k a b c. squared_most v q k (omega arith) b (omega arith);
 })
 
 -- the two sides of the leaning price as one sum, of which one part is 0
@@ -90,6 +101,9 @@ leaning_shape t = record {
   up_more = λ _. omega arith;
   down_more = λ _. omega arith;
 }
+
+pub leaning_step : (v q k : ℕ) → price_step leaning_price v q k ≡ cond (nat_le v k) (pos (4 * class_weight q)) (neg_ℤ (pos (class_weight q)))
+leaning_step v q k = step_by_side (leaning_shape (class_weight q)) v k
 
 pub leaning_lawful : (t : ℕ) → RuleLevel t → Lawful (leaning t)
 leaning_lawful t level = lawful (leaning t) level (record {

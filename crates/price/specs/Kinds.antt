@@ -1,6 +1,6 @@
 -- The three price rules: the price of height k for a reading v of class q, each made for a greatest level.
 use Rattle.std.specs.Prelude.{ℕ, ◌-◌, ◌*◌, cond, nat_le}
-use Rattle.price.specs.Rules.{Rule}
+use Rattle.price.specs.Rules.{Rule, ruled}
 use Rattle.price.specs.Weights.{class_weight}
 use Rattle.theory.specs.Grids.{gap}
 
@@ -18,12 +18,12 @@ leaning_price v q k = cond (nat_le k v) (class_weight q * (v - k)) (4 * class_we
 
 -- the rule of the absolute price, made for a greatest level
 abbrev pub absolute : ℕ → Rule
-absolute t = record { greatest = t; price = absolute_price }
+absolute = ruled absolute_price
 
 -- the rule of the squared price, made for a greatest level
 abbrev pub squared : ℕ → Rule
-squared t = record { greatest = t; price = squared_price }
+squared = ruled squared_price
 
 -- the rule of the leaning price, made for a greatest level
 abbrev pub leaning : ℕ → Rule
-leaning t = record { greatest = t; price = leaning_price }
+leaning = ruled leaning_price

@@ -7,9 +7,17 @@ pub record Rule : Type 0 where
   pub greatest : ℕ
   pub price : ℕ → ℕ → ℕ → ℕ
 
--- what the next height costs more than height k; it may be negative
+-- the rule of a price, made for a greatest level
+abbrev pub ruled : (ℕ → ℕ → ℕ → ℕ) → ℕ → Rule
+ruled p t = record { greatest = t; price = p }
+
+-- what the next height costs more than height k under a price; it may be negative
+abbrev pub price_step : (ℕ → ℕ → ℕ → ℕ) → ℕ → ℕ → ℕ → ℤ
+price_step p v q k = pos (p v q (k + 1)) -ℤ pos (p v q k)
+
+-- and under a rule
 abbrev pub step : Rule → ℕ → ℕ → ℕ → ℤ
-step r v q k = pos (r.price v q (k + 1)) -ℤ pos (r.price v q k)
+step r = price_step r.price
 
 -- the laws of a rule, for readings v and heights k from 0 to its greatest level and classes q up to the greatest class
 pub record Lawful (r : Rule) : Type 0 where

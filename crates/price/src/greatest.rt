@@ -17,7 +17,7 @@ impl Greatest {
     pub fn new(level: u16) -> Result<Greatest, Refusal>
         ensures { MadeFor level (λ g. g.level ≡ level) result }
     {
-        if 1 <= level && level <= MAX_TOP {
+        if (1..=MAX_TOP).contains(&level) {
             Ok(Greatest { level })
         } else {
             Err(Refusal::Range)

@@ -1,81 +1,37 @@
 // The rule under which a level above the reading costs four times what one below it does.
-ghost use Rattle.std.specs.Prelude.{◌≡◌, ◌*◌, ◌<◌, ◌≤◌, pos, neg_ℤ};
-ghost use Rattle.limits.specs.Limits.{most_top, most_class};
-ghost use Rattle.price.specs.Weights.{class_weight};
-ghost use Rattle.price.specs.Kinds.{leaning, leaning_price};
-ghost use Rattle.price.specs.Making.{MadeFor};
-ghost use Rattle.price.specs.Made.{leaning_of};
+ghost use Rattle.price.specs.Kinds.{leaning_price};
 ghost use Rattle.price.specs.Kept.{leaning_lawful};
 
-use crate::greatest::Greatest;
-use crate::rule::PriceRule;
-use crate::weight::small_weight;
-use limits::Refusal;
+use crate::curve::{Curve, CurveRule};
+use crate::question::Question;
+use crate::weight::class_weight;
+
+pub type Leaning = CurveRule<LeaningDistance>;
 
 #[derive(Clone, Copy)]
-pub struct Leaning {
-    greatest: Greatest,
-}
+pub struct LeaningDistance;
 
-impl Leaning {
-    // The rule made for this greatest level.
-    pub fn new(greatest: u16) -> Result<Leaning, Refusal>
-        ensures { MadeFor greatest (λ a. leaning_of a ≡ leaning greatest) result }
-    {
-        let greatest = Greatest::new(greatest)?;
-        Ok(Leaning { greatest })
-    }
-}
+impl Curve for LeaningDistance {
+    ghost price = { leaning_price };
 
-impl PriceRule for Leaning {
-    ghost rule = { leaning_of };
+    ghost lawful = { leaning_lawful };
 
-    ghost lawful = { λ s. leaning_lawful s.greatest.level s.greatest.ranged };
-
-    fn greatest(&self) -> u16 {
-        self.greatest.level()
-    }
-
-    fn price(&self, reading: u16, class: u8, height: u16) -> u32 {
-        if self.greatest.has_price(reading, class, height) {
-            price_at(reading, class, height)
+    fn price_at(asked: Question) -> u32 {
+        let weight = class_weight(asked.class);
+        if asked.height <= asked.reading {
+            weight * u32::from(asked.reading - asked.height)
         } else {
-            0
+            4 * weight * u32::from(asked.height - asked.reading)
         }
     }
 
-    fn step(&self, reading: u16, class: u8, height: u16) -> i32 {
-        if self.greatest.has_step(reading, class, height) {
-            step_at(reading, class, height)
+    #[tactic(auto, using(crate::specs::Kept::leaning_step))]
+    fn step_at(asked: Question) -> i32 {
+        let weight = class_weight(asked.class) as i32;
+        if asked.reading <= asked.height {
+            4 * weight
         } else {
-            0
+            -weight
         }
-    }
-}
-
-// The price of a height.
-fn price_at(reading: u16, class: u8, height: u16) -> u32
-    requires { (reading ≤ most_top) × ((class ≤ most_class) × (height ≤ most_top)) }
-    ensures { result ≡ leaning_price reading class height }
-{
-    let weight = small_weight(class);
-    if height <= reading {
-        weight * u32::from(reading - height)
-    } else {
-        4 * weight * u32::from(height - reading)
-    }
-}
-
-// The step from a height to the next: up from the reading on, and down before it.
-fn step_at(reading: u16, class: u8, height: u16) -> i32
-    requires { class ≤ most_class }
-    ensures above { reading ≤ height → result ≡ pos (4 * class_weight class) }
-    ensures below { height < reading → result ≡ neg_ℤ (pos (class_weight class)) }
-{
-    let weight = small_weight(class) as i32;
-    if reading <= height {
-        4 * weight
-    } else {
-        -weight
     }
 }

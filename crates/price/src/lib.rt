@@ -2,8 +2,10 @@
 #![tactic(auto)]
 
 pub mod absolute;
+pub mod curve;
 pub mod greatest;
 pub mod leaning;
+pub mod question;
 pub mod rule;
 pub mod squared;
 #[cfg(test)]
@@ -11,7 +13,9 @@ mod tests;
 pub mod weight;
 
 pub use absolute::Absolute;
+pub use curve::{Curve, CurveRule};
 pub use leaning::Leaning;
+pub use question::Question;
 pub use rule::PriceRule;
 pub use squared::Squared;
 pub use weight::class_weight;

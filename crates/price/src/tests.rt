@@ -10,8 +10,8 @@ use std::test::Fail;
 #[test]
 fn weights(rt: HostRuntime) {
     let expected = [0, 1, 3, 6, 10, 15, 21, 28, 36, 45, 55, 66, 78, 91, 105, 120];
-    for class in 0..16u8 {
-        assert_eq!(rt; class_weight(class), expected[class as usize]);
+    for (class, weight) in (0..16).zip(expected) {
+        assert_eq!(rt; class_weight(class), weight);
     }
 }
 
@@ -26,12 +26,7 @@ fn greatest_prices(rt: HostRuntime) -> Result<(), Fail> {
 
 // The steps two below, one below, at and one above a reading of 5.
 fn steps<P: PriceRule>(rule: &P, class: u8) -> [i32; 4] {
-    [
-        rule.step(5, class, 3),
-        rule.step(5, class, 4),
-        rule.step(5, class, 5),
-        rule.step(5, class, 6),
-    ]
+    [3, 4, 5, 6].map(|height| rule.step(5, class, height))
 }
 
 #[test]
@@ -70,17 +65,14 @@ fn outside_answered_0(rt: HostRuntime) -> Result<(), Fail> {
     Ok(())
 }
 
-// The number of the refusal, and 0 for what was made.
-fn refused<T: Drop>(made: Result<T, Refusal>) -> u8 {
-    match made {
-        Ok(_) => 0,
-        Err(refusal) => refusal.number(),
-    }
+// The number of the refusal, if it is one.
+fn refused<T: Drop>(made: Result<T, Refusal>) -> Option<u8> {
+    made.err().map(Refusal::number)
 }
 
 #[test]
 fn greatest_levels(rt: HostRuntime) {
-    let expected = [(0, 1), (1, 0), (1023, 0), (1024, 1)];
+    let expected = [(0, Some(1)), (1, None), (1023, None), (1024, Some(1))];
     for (level, number) in expected {
         assert_eq!(rt; refused(Absolute::new(level)), number);
         assert_eq!(rt; refused(Squared::new(level)), number);

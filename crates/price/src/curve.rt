@@ -1,0 +1,84 @@
+// A curve of prices, and the price rule that it makes for a greatest level.
+ghost use Rattle.std.specs.Prelude.{◌≡◌, ℕ};
+ghost use Rattle.price.specs.Rules.{Lawful, price_step, ruled};
+ghost use Rattle.price.specs.Making.{RuleLevel, MadeFor};
+
+use crate::greatest::Greatest;
+use crate::question::Question;
+use crate::rule::PriceRule;
+use limits::Refusal;
+use std::marker::PhantomData;
+
+pub trait Curve {
+    // The prices: the arguments are the reading, the class and the height.
+    ghost price: { ℕ → ℕ → ℕ → ℕ };
+
+    // The price of a height.
+    fn price_at(asked: Question) -> u32
+        ensures { result ≡ price asked.reading asked.class asked.height };
+
+    // What the next height costs more than this one.
+    fn step_at(asked: Question) -> i32
+        ensures { result ≡ price_step price asked.reading asked.class asked.height };
+
+    // The rule of these prices keeps the laws of price rules, whatever level it is made for.
+    ghost lawful: { (t : ℕ) → RuleLevel t → Lawful (ruled price t) };
+}
+
+// The rule of a curve.
+#[derive(Clone, Copy)]
+pub struct CurveRule<C> {
+    greatest: Greatest,
+    curve: PhantomData<C>,
+}
+
+impl<C: Curve> CurveRule<C> {
+    ghost use Rattle.price.specs.Made.{rule_of};
+
+    // The rule made for this greatest level.
+    pub fn new(greatest: u16) -> Result<CurveRule<C>, Refusal>
+        ensures { MadeFor greatest (λ a. rule_of C.price a ≡ ruled C.price greatest) result }
+    {
+        let greatest = Greatest::new(greatest)?;
+        Ok(CurveRule {
+            greatest,
+            curve: PhantomData,
+        })
+    }
+}
+
+impl<C: Curve> PriceRule for CurveRule<C> {
+    ghost use Rattle.price.specs.Made.{rule_of};
+
+    ghost rule = { rule_of C.price };
+
+    ghost lawful = { λ s. C.lawful s.greatest.level s.greatest.ranged };
+
+    fn greatest(&self) -> u16 {
+        self.greatest.level()
+    }
+
+    fn price(&self, reading: u16, class: u8, height: u16) -> u32 {
+        if self.greatest.has_price(reading, class, height) {
+            C::price_at(Question {
+                reading,
+                class,
+                height,
+            })
+        } else {
+            0
+        }
+    }
+
+    fn step(&self, reading: u16, class: u8, height: u16) -> i32 {
+        if self.greatest.has_step(reading, class, height) {
+            C::step_at(Question {
+                reading,
+                class,
+                height,
+            })
+        } else {
+            0
+        }
+    }
+}

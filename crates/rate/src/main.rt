@@ -9,7 +9,6 @@ mod sample;
 
 use job::Job;
 use job::made::job_of;
-use limits::Refusal;
 use price::PriceRule;
 use rating::{cheapest, energies};
 use std::io;
@@ -36,13 +35,8 @@ fn print_rates<P: PriceRule>(
             let [readings, flat, wall] = energies;
             println!(rt; "{rule_name} {readings} {flat} {wall} {cheapest}")
         }
-        Err(refusal) => print_refusal(rt, refusal),
+        Err(refusal) => println!(rt; "{refusal}"),
     }
-}
-
-fn print_refusal(rt: &impl Print, refusal: Refusal) -> io::Result<()> {
-    let number = refusal.number();
-    println!(rt; "refused {number}")
 }
 
 fn print_job(rt: &impl Print, job: &Job) -> io::Result<()> {
@@ -55,6 +49,6 @@ fn print_job(rt: &impl Print, job: &Job) -> io::Result<()> {
 fn main(rt: HostRuntime) -> io::Result<()> {
     match job_of(&sample::READINGS) {
         Ok(job) => print_job(&rt, &job),
-        Err(refusal) => print_refusal(&rt, refusal),
+        Err(refusal) => println!(rt; "{refusal}"),
     }
 }

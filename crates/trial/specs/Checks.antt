@@ -1,10 +1,11 @@
 -- Whether a tile may be handed to a cut maker, cell by cell and side by side.
-use Rattle.std.specs.Prelude.{◌≡◌, ℕ, ◌≤◌, false, pos, unsigned_abs}
+use Rattle.std.specs.Prelude.{◌≡◌, ℕ, ◌<◌, ◌≤◌, false, pos, unsigned_abs}
 use Rattle.limits.specs.Limits.{most_charge, most_tie}
 use Rattle.tile.specs.declared.shape.Shape.{Shape}
 use Rattle.tile.specs.declared.side.Side.{Side}
 use Rattle.tile.specs.declared.side.Side.TheVariants.{Rightward, Downward}
 use Rattle.tile.specs.Records.{stored_tie, stored_flow}
+use Rattle.tile.specs.Shapes.{cells}
 use Rattle.tile.specs.Ties.{has_neighbour}
 use Rattle.tile.specs.Tiles.{Tile, cell}
 use Rattle.flow.specs.Networks.{is_live}
@@ -20,3 +21,6 @@ pub record CellFits (s : Shape) (t : Tile) (u : ℕ) : Type 0 where
   pub charge : unsigned_abs (cell t u).charge ≤ most_charge
   pub right : SideFits s t u Rightward
   pub down : SideFits s t u Downward
+
+abbrev pub AllFit : Shape → Tile → Type 0
+AllFit s t = (u : ℕ) → u < cells s → CellFits s t u

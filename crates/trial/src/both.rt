@@ -1,5 +1,5 @@
 // One tile, cut by both makers.
-ghost use Rattle.std.specs.Prelude.{◌≡◌, ℕ, ◌<◌, true, false};
+ghost use Rattle.std.specs.Prelude.{◌≡◌, ℕ, ◌<◌, OnOk, OnErr};
 ghost use Rattle.theory.specs.Sets.{SmallestCheapestSet};
 ghost use Rattle.tile.specs.Shapes.{cells};
 ghost use Rattle.flow.specs.Networks.{network, charges, marks};
@@ -7,30 +7,30 @@ ghost use Rattle.flow.specs.Networks.{network, charges, marks};
 use crate::checks::is_cuttable;
 use cut::{AugmentingPaths, PushRelabel, Step};
 use flow::run_cut;
-use tile::{Cell, Shape};
+use tile::{Cell, Refusal, Shape};
 
-// Cuts two copies of a tile, one by each maker. Answers false, and cuts nothing, where a copy may not be cut or a workspace is
-// too short. On equal copies the two makers mark the same cells.
+// Cuts two copies of a tile, one by each maker. Refuses, and cuts nothing, where a workspace is too short or a copy may not
+// be cut. On equal copies the two makers mark the same cells.
 pub fn cut_both(
     shape: Shape,
     first: &mut [Cell],
     steps: &mut [Step],
     second: &mut [Cell],
     numbers: &mut [u16],
-) -> bool
-    ensures uncut { result ≡ false → (first.new ≡ first.old) × (second.new ≡ second.old) }
-    ensures alike { result ≡ true → first.old ≡ second.old → (u : ℕ) → u < cells shape → marks first.new u ≡ marks second.new u }
-    ensures by_paths { result ≡ true → SmallestCheapestSet (network shape first.old) (charges first.old) (marks first.new) }
-    ensures by_ranks { result ≡ true → SmallestCheapestSet (network shape second.old) (charges second.old) (marks second.new) }
+) -> Result<(), Refusal>
+    ensures uncut { OnErr result ((first.new ≡ first.old) × (second.new ≡ second.old)) }
+    ensures alike { OnOk result (first.old ≡ second.old → (u : ℕ) → u < cells shape → marks first.new u ≡ marks second.new u) }
+    ensures by_paths { OnOk result (SmallestCheapestSet (network shape first.old) (charges first.old) (marks first.new)) }
+    ensures by_ranks { OnOk result (SmallestCheapestSet (network shape second.old) (charges second.old) (marks second.new)) }
 {
     let n = shape.cells();
     if steps.len() < n || numbers.len() < n {
-        return false;
+        return Err(Refusal::FewEntries);
     }
     if !is_cuttable(shape, first) || !is_cuttable(shape, second) {
-        return false;
+        return Err(Refusal::Corrupt);
     }
     run_cut(&AugmentingPaths, shape, first, steps);
     run_cut(&PushRelabel, shape, second, numbers);
-    true
+    Ok(())
 }

@@ -1,67 +1,83 @@
 // Whether a tile may be handed to a cut maker.
-ghost use Rattle.std.specs.Prelude.{◌≡◌, ◌<◌, ◌≤◌, length, Decides};
+ghost use Rattle.std.specs.Prelude.{◌≡◌, ◌≤◌, ◌↔◌, length, IsTrue, IfSome};
 ghost use Rattle.tile.specs.Shapes.{cells};
-ghost use Rattle.flow.specs.Networks.{is_live};
 ghost use Rattle.flow.specs.Points.{Cuttable};
-ghost use Rattle.trial.specs.Checks.{SideFits, CellFits};
 
 use limits::{MAX_CHARGE, MAX_TIE};
 use tile::{Cell, Shape, Side};
 
-// Has the cell a live tie on the side?
-pub(crate) fn is_live(shape: Shape, tile: &[Cell], at: usize, side: Side) -> bool
-    requires whole { cells shape ≤ length tile.now }
-    requires inside { at < cells shape }
-    ensures { result ≡ is_live shape tile.now at side }
-{
-    match shape.neighbour(at, side) {
-        Some(other) => {
-            let (a, b) = (&tile[at], &tile[other]);
-            a.low == b.low && a.high == b.high && a.low != a.high
+// A tile with a record for each cell of its shape.
+#[derive(Drop)]
+pub(crate) struct Chart<'a> {
+    pub shape: Shape,
+    pub tile: &'a [Cell],
+    ghost whole: { cells shape ≤ length tile.now },
+}
+
+impl<'a> Chart<'a> {
+    ghost use Rattle.std.specs.Prelude.{◌<◌, IsSome, MatchOption};
+    ghost use Rattle.flow.specs.Networks.{is_live};
+    ghost use Rattle.trial.specs.Checks.{SideFits, CellFits, AllFit};
+
+    // The chart of a tile that has a record for each cell.
+    pub(crate) fn of(shape: Shape, tile: &'a [Cell]) -> Option<Chart<'a>>
+        ensures { MatchOption result (length tile.now < cells shape) (λ chart. (chart.shape ≡ shape) × (chart.tile.now ≡ tile.now)) }
+    {
+        if tile.len() < shape.cells() {
+            return None;
         }
-        None => false,
+        Some(Chart { shape, tile })
     }
-}
 
-// Are the tie and the flow on one side as a cut maker wants them?
-fn side_fits(shape: Shape, tile: &[Cell], at: usize, side: Side) -> bool
-    requires whole { cells shape ≤ length tile.now }
-    requires inside { at < cells shape }
-    ensures { Decides result (SideFits shape tile.now at side) }
-{
-    let tie = tile[at].tie(side);
-    let flow = tile[at].flow(side);
-    if tie > MAX_TIE || flow.unsigned_abs() > u32::from(tie) {
-        return false;
+    // The neighbour on a side, where the tie to it is live.
+    pub(crate) fn live_neighbour(&self, at: usize, side: Side) -> Option<usize>
+        requires { at < cells self.now.shape }
+        ensures live { IsSome result ↔ IsTrue (is_live self.now.shape self.now.tile.now at side) }
+        ensures inside { IfSome result (λ other. other < cells self.now.shape) }
+    {
+        let other = self.shape.neighbour(at, side)?;
+        self.tile[at]
+            .shares_bracket(&self.tile[other])
+            .then_some(other)
     }
-    if shape.neighbour(at, side).is_none() && tie != 0 {
-        return false;
-    }
-    is_live(shape, tile, at, side) || flow == 0
-}
 
-// Is one cell as a cut maker wants it?
-fn cell_fits(shape: Shape, tile: &[Cell], at: usize) -> bool
-    requires whole { cells shape ≤ length tile.now }
-    requires inside { at < cells shape }
-    ensures { Decides result (CellFits shape tile.now at) }
-{
-    tile[at].charge.unsigned_abs() <= MAX_CHARGE
-        && side_fits(shape, tile, at, Side::Rightward)
-        && side_fits(shape, tile, at, Side::Downward)
+    // Are the tie and the flow on one side as a cut maker wants them?
+    fn side_fits(&self, at: usize, side: Side) -> bool
+        requires { at < cells self.now.shape }
+        ensures { IsTrue result ↔ SideFits self.now.shape self.now.tile.now at side }
+    {
+        let tie = self.tile[at].tie(side);
+        let flow = self.tile[at].flow(side);
+        tie <= MAX_TIE
+            && flow.unsigned_abs() <= u32::from(tie)
+            && (tie == 0 || self.shape.neighbour(at, side).is_some())
+            && (flow == 0 || self.live_neighbour(at, side).is_some())
+    }
+
+    // Is one cell as a cut maker wants it?
+    fn cell_fits(&self, at: usize) -> bool
+        requires { at < cells self.now.shape }
+        ensures { IsTrue result ↔ CellFits self.now.shape self.now.tile.now at }
+    {
+        self.tile[at].charge.unsigned_abs() <= MAX_CHARGE
+            && self.side_fits(at, Side::Rightward)
+            && self.side_fits(at, Side::Downward)
+    }
+
+    // Are all cells?
+    fn fits(&self) -> bool
+        ensures { IsTrue result ↔ AllFit self.now.shape self.now.tile.now }
+    {
+        (0..self.shape.cells()).all(|at| self.cell_fits(at))
+    }
 }
 
 // May the tile be handed to a cut maker?
 pub fn is_cuttable(shape: Shape, tile: &[Cell]) -> bool
-    ensures { Decides result (Cuttable shape tile.now) }
+    ensures { IsTrue result ↔ Cuttable shape tile.now }
 {
-    if tile.len() < shape.cells() {
-        return false;
+    match Chart::of(shape, tile) {
+        Some(chart) => chart.fits(),
+        None => false,
     }
-    for at in 0..shape.cells() {
-        if !cell_fits(shape, tile, at) {
-            return false;
-        }
-    }
-    true
 }

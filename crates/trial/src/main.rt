@@ -7,32 +7,12 @@ mod random;
 mod tally;
 mod tiles;
 
-use anyhow::anyhow;
 use both::cut_both;
 use cut::Step;
 use random::Random;
 use tally::{Tally, same_marks};
 use tile::{Cell, Shape};
 use tiles::{Sizes, fill};
-
-const BLANK: Cell = Cell {
-    reading: 0,
-    class: 0,
-    right: 0,
-    down: 0,
-    right_flow: 0,
-    down_flow: 0,
-    low: 0,
-    high: 0,
-    charge: 0,
-    mark: 0,
-    rank: 0,
-};
-
-const NOWHERE: Step = Step {
-    cell: 0,
-    side: None,
-};
 
 // Makes one tile, cuts two copies of it, and adds it to the tally.
 fn try_tile(
@@ -44,13 +24,13 @@ fn try_tile(
 ) -> anyhow::Result<()> {
     let heap = rt.alloc();
     let n = shape.cells();
-    let mut first = vec![in heap; BLANK; n]?;
+    let mut first = vec![in heap; Cell::default(); n]?;
     fill(random, shape, &mut first, sizes);
     let mut second = first.clone()?;
-    let mut steps = vec![in heap; NOWHERE; n]?;
+    let mut steps = vec![in heap; Step::default(); n]?;
     let mut numbers = vec![in heap; 0u16; n]?;
     let cut = cut_both(shape, &mut first, &mut steps, &mut second, &mut numbers);
-    if cut && same_marks(&first, &second) {
+    if cut.is_ok() && same_marks(&first, &second) {
         tally.alike = tally.alike.saturating_add(1);
     }
     tally.add(shape, &first);
@@ -66,18 +46,13 @@ fn try_group(
     sizes: Sizes,
     tiles: u64,
 ) -> anyhow::Result<()> {
-    let Ok(shape) = Shape::of_strip(rows, columns, 15) else {
-        return Err(anyhow!("a shape out of range"));
-    };
-    let mut tally = Tally::NONE;
+    let shape = Shape::of_strip(rows, columns, 15)?;
+    let mut tally = Tally::default();
     for _ in 0..tiles {
         try_tile(rt, random, shape, sizes, &mut tally)?;
     }
     let (charge, tie) = (sizes.charge, sizes.tie);
-    let (alike, marked, cost, check) = (tally.alike, tally.marked, tally.cost, tally.check);
-    println!(rt;
-        "{rows} x {columns}, charges to {charge}, ties to {tie}: tiles {tiles}, alike {alike}, marked {marked}, cost {cost}, check {check}"
-    )?;
+    println!(rt; "{rows} x {columns}, charges to {charge}, ties to {tie}: tiles {tiles}, {tally}")?;
     Ok(())
 }
 
@@ -87,27 +62,23 @@ fn print_pair(rt: &HostRuntime) -> anyhow::Result<()> {
         charge: 11,
         right: 6,
         high: 10,
-        ..BLANK
+        ..Cell::default()
     };
     let right = Cell {
         charge: -9,
         high: 10,
-        ..BLANK
+        ..Cell::default()
     };
     let mut first = [left, right];
     let mut second = [left, right];
-    let Ok(shape) = Shape::new(1, 2, 10) else {
-        return Err(anyhow!("a shape out of range"));
-    };
-    if !cut_both(
+    let shape = Shape::new(1, 2, 10)?;
+    cut_both(
         shape,
         &mut first,
-        &mut [NOWHERE; 2],
+        &mut [Step::default(); 2],
         &mut second,
         &mut [0; 2],
-    ) {
-        return Err(anyhow!("a tile that may not be cut"));
-    }
+    )?;
     let (f, a, b) = (first[0].right_flow, first[0].mark, first[1].mark);
     let (g, c, d) = (second[0].right_flow, second[0].mark, second[1].mark);
     println!(rt;

@@ -1,10 +1,7 @@
 // Charged tiles with pseudo-random charges, brackets, ties, flows, marks and ranks.
-ghost use Rattle.std.specs.Prelude.{◌<◌, ◌≤◌, length};
-ghost use Rattle.tile.specs.Shapes.{cells};
-
-use crate::checks::is_live;
+use crate::checks::Chart;
 use crate::random::Random;
-use tile::{Cell, Shape, Side};
+use tile::{Bracket, Cell, Shape, Side};
 
 // How large charges and ties may get.
 #[derive(Clone, Copy)]
@@ -14,11 +11,11 @@ pub struct Sizes {
 }
 
 // One of three brackets: most cells share the first, and the last is settled.
-fn bracket(random: &mut Random) -> (u16, u16) {
+fn bracket(random: &mut Random) -> Bracket {
     match random.below(16) {
-        0..13 => (0, 7),
-        13 | 14 => (8, 15),
-        _ => (5, 5),
+        0..13 => Bracket { low: 0, high: 7 },
+        13 | 14 => Bracket { low: 8, high: 15 },
+        _ => Bracket { low: 5, high: 5 },
     }
 }
 
@@ -37,21 +34,16 @@ fn charge(random: &mut Random, most: u32) -> i32 {
 
 fn record(random: &mut Random, shape: Shape, at: usize, sizes: Sizes) -> Cell {
     let charge = charge(random, sizes.charge);
-    let (low, high) = bracket(random);
+    let Bracket { low, high } = bracket(random);
     let right = tie(random, shape, at, Side::Rightward, sizes.tie);
     let down = tie(random, shape, at, Side::Downward, sizes.tie);
     Cell {
-        reading: 0,
-        class: 0,
         right,
         down,
-        right_flow: 0,
-        down_flow: 0,
         low,
         high,
         charge,
-        mark: 0,
-        rank: 0,
+        ..Cell::default()
     }
 }
 
@@ -64,16 +56,10 @@ fn start_flow(live: bool, weight: u16, drawn: u64) -> i32 {
     (drawn % (2 * weight + 1)) as i32 - weight as i32
 }
 
-// Gives one record flows to start from, and any mark and rank.
-fn stir(random: &mut Random, shape: Shape, tile: &mut [Cell], at: usize)
-    requires whole { cells shape ≤ length tile.old }
-    requires inside { at < cells shape }
-{
+// Gives one record flows to start from where its ties are live, and any mark and rank.
+fn stir(random: &mut Random, cell: &mut Cell, right_live: bool, down_live: bool) {
     let drawn = random.below(1 << 20);
     let also = random.below(1 << 20);
-    let right_live = is_live(shape, tile, at, Side::Rightward);
-    let down_live = is_live(shape, tile, at, Side::Downward);
-    let cell = &mut tile[at];
     cell.right_flow = start_flow(right_live, cell.right, drawn);
     cell.down_flow = start_flow(down_live, cell.down, also);
     cell.mark = (drawn % 256) as u8;
@@ -82,13 +68,16 @@ fn stir(random: &mut Random, shape: Shape, tile: &mut [Cell], at: usize)
 
 // Fills the records of a tile.
 pub(crate) fn fill(random: &mut Random, shape: Shape, tile: &mut [Cell], sizes: Sizes) {
-    if tile.len() < shape.cells() {
-        return;
+    for (at, cell) in tile.iter_mut().take(shape.cells()).enumerate() {
+        *cell = record(random, shape, at, sizes);
     }
+    // A cell's ties are live by its neighbours' brackets, so this needs its index.
     for at in 0..shape.cells() {
-        tile[at] = record(random, shape, at, sizes);
-    }
-    for at in 0..shape.cells() {
-        stir(random, shape, tile, at);
+        let Some(chart) = Chart::of(shape, tile) else {
+            return;
+        };
+        let right_live = chart.live_neighbour(at, Side::Rightward).is_some();
+        let down_live = chart.live_neighbour(at, Side::Downward).is_some();
+        stir(random, &mut tile[at], right_live, down_live);
     }
 }

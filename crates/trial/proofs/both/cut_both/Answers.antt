@@ -1,5 +1,4 @@
 use Rattle.std.proofs.Common.{sym, subst}
-use Rattle.std.proofs.lemmas.Bool.{true≢false}
 use Rattle.theory.specs.Sets.{SmallestCheapestSet}
 use Rattle.theory.proofs.Sets.{smallest_unique}
 use Rattle.tile.specs.Tiles.{Tile}
@@ -11,10 +10,10 @@ returns c =
     let a = c.run_cut.ensures.smallest in
     let b = c.run_cut-2.ensures.smallest in
     record {
-      uncut = λ e. absurd (true≢false e);
-      alike = λ _ e.
+      uncut = tt;
+      alike = λ e.
           smallest_unique (network c.args.shape c.args.first.now) (charges c.args.first.now) (marks c.run_cut.new.tile) (marks c.run_cut-2.new.tile) a
           (subst (λ (t : Tile). SmallestCheapestSet (network c.args.shape t) (charges t) (marks c.run_cut-2.new.tile)) (sym e) b);
-      by_paths = λ _. a;
-      by_ranks = λ _. b;
+      by_paths = a;
+      by_ranks = b;
     }

@@ -1,6 +1,0 @@
-use Rattle.std.proofs.Common.{arith}
-use Rattle.tile.proofs.Joins.{found_inside}
-use Rattle.trial.proofs.tally.tie_cost.Goals as goal
-
-pub bounds-tile-other : goal.bounds-tile-other
-bounds-tile-other c = omega (arith, found_inside c.args.shape c.args.at c.args.side c.in-Some.other c.requires.inside c.in-Some.ensures, c.requires.whole)

@@ -6,7 +6,7 @@ use crate::bracket::Bracket;
 use crate::side::Side;
 
 // The host owns the records of a tile, row by row, and may write anything into them.
-#[derive(Clone, Copy)]
+#[derive(Clone, Copy, Default)]
 pub struct Cell {
     // What was read at the cell.
     pub reading: u16,

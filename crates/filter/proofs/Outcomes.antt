@@ -1,17 +1,14 @@
 -- What checks come to, and what a refused call leaves of a run.
-use Rattle.std.proofs.Common.{◌≡◌, ℕ, ◌<◌, [], length, Some, None, Ok, Err, Option, Result, refl, ap, subst, arith}
+use Rattle.std.proofs.Common.{◌≡◌, ℕ, ◌<◌, [], length, Ok, Err, Result, refl, ap, subst, arith}
 use Rattle.limits.specs.declared.refusal.Refusal.{Refusal}
 use Rattle.price.specs.Rules.{Rule}
-use Rattle.tile.specs.declared.shape.Shape.{Shape}
 use Rattle.tile.specs.Rating.{Rated}
 use Rattle.tile.specs.Shapes.{cells}
-use Rattle.tile.specs.Tiles.{Tile, cell}
-use Rattle.passes.specs.Writing.{reset, rewritten}
-use Rattle.filter.specs.declared.states.Draft.{Draft}
+use Rattle.tile.specs.Tiles.{Tile}
 use Rattle.filter.specs.declared.states.Level.{Level}
 use Rattle.filter.specs.declared.answers.Refused.{Refused}
-use Rattle.filter.specs.Checks.{Checked, refused, passed, TileChecked, CostChecked}
-use Rattle.filter.specs.Calls.{GivesBack, LeavesAll, ReopenDoes, CostDoes}
+use Rattle.filter.specs.Checks.{Checked, refused, passed, CostChecked}
+use Rattle.filter.specs.Calls.{GivesBack, LeavesAll, CostDoes}
 use Rattle.filter.specs.Runs.{Accepted, begun, rounded, finished, reopened, History, State, draft, rounding, level, shape_of, added, next, Call}
 use Rattle.filter.proofs.Heights.{low_ends, rated_low}
 
@@ -37,25 +34,17 @@ pub surely : {n : ℕ} {e : Refusal} {Holds Rest : Type 0} {Left : Refusal → T
 surely h (refused fails _ _) = absurd (fails h)
 surely h (passed _ r) = r
 
--- where no refusal was found, none is left to explain; where one was, nothing was accepted
-pub none_found : {G : Type 0} (why : Refusal) → ◌≡◌ {A = Option Refusal} None (Some why) → G
+-- what the checks of a call come to
+abbrev pub Outcome : Type 0
+Outcome = Result (Unit {0}) Refusal
+
+-- where they passed, no refusal is left to explain
+pub none_found : {G : Type 0} (why : Refusal) → ◌≡◌ {A = Outcome} (Ok tt) (Err why) → G
 none_found why e = let z : ◌≡◌ {A = ℕ} 0 1 = cc in absurd (omega arith)
 
 pub unrefused : {n : ℕ} {e : Refusal} {Holds Rest Rest' : Type 0} {Left' : Refusal → Type 0} → (Rest → Rest') →
-    Checked n e Holds (λ why. ◌≡◌ {A = Option Refusal} None (Some why)) Rest → Checked n e Holds Left' Rest'
+    Checked n e Holds (λ why. ◌≡◌ {A = Outcome} (Ok tt) (Err why)) Rest → Checked n e Holds Left' Rest'
 unrefused rest = mapped (λ why z. none_found why z) rest
-
-pub one_found : {G : Type 0} (why : Refusal) → ◌≡◌ {A = Option Refusal} (Some why) None → G
-one_found why e = let z : ◌≡◌ {A = ℕ} 0 1 = cc in absurd (omega arith)
-
--- the refusal that was found is the one that is given
-pub gives : {S X : Type 0} (state : S) (found why : Refusal) → ◌≡◌ {A = Option Refusal} (Some found) (Some why) →
-    GivesBack {X = X} state (Err (record { state = state; why = found })) why
-gives state found why e = let same : found ≡ why = cc in ap (λ (z : Refusal). Err (record { state = state; why = z })) same
-
-pub leaves_all : {S X : Type 0} (state : S) (t : Tile) (found why : Refusal) → ◌≡◌ {A = Option Refusal} (Some found) (Some why) →
-    LeavesAll {X = X} state t (Err (record { state = state; why = found })) t why
-leaves_all state t found why e = (gives state found why e, refl)
 
 -- what a refused call leaves: state, tile and history as they were
 pub record Unchanged (x x' : State) (t t' : Tile) (new : History) : Type 0 where
@@ -81,24 +70,10 @@ short_call lt (Call.finish {t} r answer w) = either (back_again rounding level f
 short_call lt (Call.reopen_rounding {t} {t'} r answer w) = either (all_again rounding draft reopened r t t' answer) (λ whole _. absurd (omega arith)) w
 short_call lt (Call.reopen_level {t} {t'} l answer w) = either (all_again level draft reopened l t t' answer) (λ whole _. absurd (omega arith)) w
 
--- ---- reopen, by what resetting the records came to
-
-pub reset_refused : {S : Type 0} (state : S) (s : Shape) (done : ℕ) (t t' : Tile) (why : Refusal) →
-    TileChecked s done t (λ e. (◌≡◌ {A = Option Refusal} (Some why) (Some e)) × (t' ≡ t)) ((◌≡◌ {A = Option Refusal} (Some why) None) × (t' ≡ rewritten (cells s) (λ u. reset s.top (cell t u)) t)) →
-    ReopenDoes state s done t (Err (record { state = state; why = why })) t'
-reset_refused state s done t t' why =
-    mapped (λ e z. (gives state why e z.0, z.1)) (mapped (λ e z. (gives state why e z.0, z.1)) (λ z. one_found why z.0))
-
-pub reset_made : {S : Type 0} (state : S) (s : Shape) (done : ℕ) (t t' : Tile) (d : Draft) → d.shape ≡ s →
-    TileChecked s done t (λ e. (◌≡◌ {A = Option Refusal} None (Some e)) × (t' ≡ t)) ((◌≡◌ {A = Option Refusal} None None) × (t' ≡ rewritten (cells s) (λ u. reset s.top (cell t u)) t)) →
-    ReopenDoes state s done t (Ok d) t'
-reset_made state s done t t' d es =
-    mapped (λ e z. none_found e z.0) (mapped (λ e z. none_found e z.0) (λ z. record { draft = d; answers = refl; shape = es; writes = z.1 }))
-
 -- ---- cost, by the energy that was answered
 
 pub cost_made : (rule : Rule) (l : Level) (t : Tile) (greatest : ℕ) (answer : Result ℕ Refusal) → greatest ≡ rule.greatest →
-    CostChecked l.shape l.done t greatest (λ e. ◌≡◌ {A = Option Refusal} None (Some e)) (◌≡◌ {A = Option Refusal} None None) → Rated rule l.shape t (low_ends t) answer → CostDoes rule l t answer
+    CostChecked l.shape l.done t greatest (λ e. ◌≡◌ {A = Outcome} (Ok tt) (Err e)) (◌≡◌ {A = Outcome} (Ok tt) (Ok tt)) → Rated rule l.shape t (low_ends t) answer → CostDoes rule l t answer
 cost_made rule l t greatest answer e w rated =
-    let found = subst (λ (n : ℕ). CostChecked l.shape l.done t n (λ e. ◌≡◌ {A = Option Refusal} None (Some e)) (◌≡◌ {A = Option Refusal} None None)) e w in
+    let found = subst (λ (n : ℕ). CostChecked l.shape l.done t n (λ e. ◌≡◌ {A = Outcome} (Ok tt) (Err e)) (◌≡◌ {A = Outcome} (Ok tt) (Ok tt))) e w in
     either (λ why z. none_found why z) (λ whole _. unrefused (unrefused (unrefused (λ _. rated_low rule l.shape t answer whole rated))) found) found

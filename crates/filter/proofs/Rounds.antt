@@ -1,9 +1,8 @@
 -- What a round that is not refused has and does.
-use Rattle.std.proofs.Common.{◌≡◌, ℕ, ◌+◌, ◌^◌, ◌<◌, ◌≤◌, length, ℤ, Some, None, Ok, Option, sym, refl, ap, ◌∙◌, subst, ⊎_elim, arith, pow_mono}
+use Rattle.std.proofs.Common.{◌≡◌, ℕ, ◌+◌, ◌^◌, ◌<◌, ◌≤◌, length, ℤ, Ok, Err, sym, refl, ap, ◌∙◌, subst, ⊎_elim, arith, pow_mono}
 use mathlib.Core.Path.{fun_ext}
 use Rattle.std.proofs.lemmas.Bool.{cases_lt}
 use Rattle.limits.specs.Limits.{most_rounds}
-use Rattle.limits.specs.declared.refusal.Refusal.{Refusal}
 use Rattle.price.specs.Rules.{Rule}
 use Rattle.theory.specs.Sets.{SmallestCheapestSet}
 use Rattle.tile.specs.declared.bracket.Bracket.{Bracket}
@@ -26,18 +25,18 @@ use Rattle.filter.specs.Checks.{RoundChecked}
 use Rattle.filter.specs.Calls.{HalvedBy, RoundedBy, SurveyKept}
 use Rattle.filter.proofs.Narrowing.{cut_smallest, marks_narrowed, cut_kept, cut_past, narrowed_kept}
 use Rattle.filter.proofs.Keeping.{ties_same}
-use Rattle.filter.proofs.Outcomes.{either, none_found}
+use Rattle.filter.proofs.Outcomes.{Outcome, either, none_found}
 
--- what the checks of a round come to: a refusal that was found, or none
-abbrev pub ComesTo : Option Refusal → Shape → ℕ → Tile → ℕ → ℕ → Type 0
-ComesTo o s done t entries greatest = RoundChecked s done t entries greatest (λ e. o ≡ Some e) (o ≡ None)
+-- what the checks of a round come to
+abbrev pub ComesTo : Outcome → Shape → ℕ → Tile → ℕ → ℕ → Type 0
+ComesTo o s done t entries greatest = RoundChecked s done t entries greatest (λ e. o ≡ Err e) (o ≡ Ok tt)
 
 -- the same by the rule's own greatest level
-pub at_greatest : (o : Option Refusal) (s : Shape) (done : ℕ) (t : Tile) (entries a b : ℕ) → a ≡ b → ComesTo o s done t entries a → ComesTo o s done t entries b
+pub at_greatest : (o : Outcome) (s : Shape) (done : ℕ) (t : Tile) (entries a b : ℕ) → a ≡ b → ComesTo o s done t entries a → ComesTo o s done t entries b
 at_greatest o s done t entries a b e w = subst (ComesTo o s done t entries) e w
 
 -- what an accepted round needs
-pub ready : (s : Shape) (done : ℕ) (t : Tile) (entries greatest : ℕ) → ComesTo None s done t entries greatest → record { fit : Chargeable s t; reach : s.top ≤ greatest; room : cells s ≤ entries }
+pub ready : (s : Shape) (done : ℕ) (t : Tile) (entries greatest : ℕ) → ComesTo (Ok tt) s done t entries greatest → record { fit : Chargeable s t; reach : s.top ≤ greatest; room : cells s ≤ entries }
 ready s done t entries greatest =
     either (λ why z. none_found why z) (λ whole. either (λ why z. none_found why z) (λ sound. either (λ why z. none_found why z) (λ room. either (λ why z. none_found why z) (λ reach _.
     record { fit = sound_chargeable s done t whole sound; reach = reach; room = room }))))
@@ -47,7 +46,7 @@ left_few : (top done : ℕ) → top ≤ 1023 → RoundLeft top done → done < m
 left_few top done low left =
     ⊎_elim (λ (l : done < 10). l) (λ (l : 10 ≤ done). let p : 2 ^ 10 ≤ 2 ^ done = pow_mono l in absurd (omega arith)) (cases_lt done 10)
 
-pub few_left : (s : Shape) (done : ℕ) (t : Tile) (entries greatest : ℕ) → ComesTo None s done t entries greatest → done < most_rounds
+pub few_left : (s : Shape) (done : ℕ) (t : Tile) (entries greatest : ℕ) → ComesTo (Ok tt) s done t entries greatest → done < most_rounds
 few_left s done t entries greatest =
     either (λ why z. none_found why z) (λ _. either (λ why z. none_found why z) (λ _. either (λ why z. none_found why z) (λ _. either (λ why z. none_found why z) (λ _. either (λ why z. none_found why z) (λ left _.
     left_few s.top done s.high.1 left)))))

@@ -1,5 +1,8 @@
 -- What sound records have.
-use Rattle.std.proofs.Common.{◌≡◌, ℕ, ◌≤◌, Bool, true, length, Decides, sym, subst}
+use Rattle.std.proofs.Common.{◌≡◌, ℕ, ◌<◌, ◌≤◌, Bool, true, false, List, length, take, get_or, Decides, MatchBool, refl, sym, ◌∙◌, ap₂, subst, zero-add, arith}
+use Rattle.std.specs.List.{enumerate_from, AllWithin, HoldsAt}
+use Rattle.std.proofs.lemmas.List.{get_or-take, length-take-le}
+use Rattle.std.proofs.lemmas.List.FromFn.{get_or-enumerate_from, length-enumerate_from}
 use Rattle.tile.specs.declared.bracket.Bracket.{Bracket}
 use Rattle.tile.specs.declared.cell.Cell.{Cell}
 use Rattle.tile.specs.declared.shape.Shape.{Shape}
@@ -7,7 +10,7 @@ use Rattle.tile.specs.declared.side.Side.{Side}
 use Rattle.tile.specs.declared.side.Side.TheVariants.{Rightward, Downward}
 use Rattle.tile.specs.Records.{stored_tie, stored_bracket}
 use Rattle.tile.specs.Shapes.{cells}
-use Rattle.tile.specs.Tiles.{Tile}
+use Rattle.tile.specs.Tiles.{Tile, cell, blank}
 use Rattle.tile.proofs.Halves.{halving_below}
 use Rattle.passes.specs.Soundness.{SoundReading, SoundTie, SoundTies, SoundBracket, SoundCell, Sound}
 use Rattle.passes.specs.Writing.{weights}
@@ -43,3 +46,26 @@ sound_chargeable s done t whole k = record {
   lows = λ u l. (k u l).bracket.height;
   highs = λ u l. sound_high s.top done _ (k u l).bracket;
 }
+
+-- what a walk over the first n records comes to, each with its number: every one is sound, or one is not
+pub decides_sound : (s : Shape) (done n : ℕ) (t : Tile) (r : Bool) → n ≡ cells s → n ≤ length t →
+    MatchBool r (AllWithin (λ (x : ℕ × Cell). SoundCell s done x.0 x.1) (enumerate_from 0 (take n t)) 0 (length (enumerate_from 0 (take n t))))
+    ((k : ℕ) × (k < length (enumerate_from 0 (take n t))) × HoldsAt (λ (x : ℕ × Cell). ¬ SoundCell s done x.0 x.1) (enumerate_from 0 (take n t)) k) →
+    Decides r (Sound s done t)
+decides_sound s done n t r same le = at r
+  where
+    xs : List (ℕ × Cell)
+    xs = enumerate_from 0 (take n t)
+
+    long : length xs ≡ n
+    long = length-enumerate_from 0 (take n t) ∙ length-take-le n t le
+
+    entry : (u : ℕ) → u < n → get_or xs u (0, blank) ≡ (u, cell t u)
+    entry u l = get_or-enumerate_from 0 (take n t) u (0, blank) (omega (arith, length-take-le n t le)) ∙ ap₂ (λ (k : ℕ) (c : Cell). (k, c)) (zero-add u) (get_or-take n t u blank l)
+
+    at : (b : Bool) → MatchBool b (AllWithin (λ (x : ℕ × Cell). SoundCell s done x.0 x.1) xs 0 (length xs)) ((k : ℕ) × (k < length xs) × HoldsAt (λ (x : ℕ × Cell). ¬ SoundCell s done x.0 x.1) xs k) → Decides b (Sound s done t)
+    at true all = (λ _ u l. subst (λ (x : ℕ × Cell). SoundCell s done x.0 x.1) (entry u (omega arith)) (all u (0, blank) (omega arith) (omega (arith, long))), λ _. refl)
+    at false one =
+        let here : one.0 < n = omega (arith, long, one.1) in
+        let fails : ¬ SoundCell s done one.0 (cell t one.0) = subst (λ (x : ℕ × Cell). ¬ SoundCell s done x.0 x.1) (entry one.0 here) (one.2 (0, blank)) in
+        (λ e. cc, λ sound. absurd (fails (sound one.0 (omega arith))))

@@ -25,68 +25,6 @@ fn pull(here: &Cell, there: &Cell, weight: u16) -> i32
     i32::from(lower) - i32::from(higher)
 }
 
-// How far the next record on a side lies from a record.
-fn offset(shape: Shape, side: Side) -> usize
-    ensures { result ≡ offset shape.columns side }
-{
-    match side {
-        Side::Rightward => 1,
-        Side::Downward => shape.columns(),
-    }
-}
-
-// What the tie adds that the cell's own record stores on a side. At the end of a row the next cell is no neighbour, but
-// then the tie weighs 0 and adds nothing.
-fn pull_ahead(shape: Shape, tile: &[Cell], at: usize, side: Side) -> i32
-    requires fit { Chargeable shape tile.now }
-    requires inside { at < cells shape }
-    ensures value { result ≡ pull_ahead shape tile.now side at }
-    ensures few { unsigned_abs result ≤ most_tie }
-{
-    let other = at + offset(shape, side);
-    if other < shape.cells() {
-        pull(&tile[at], &tile[other], tile[at].tie(side))
-    } else {
-        0
-    }
-}
-
-// What the tie adds that the record before the cell's stores on that side. At the start of a row that record ends another
-// row, and its tie weighs 0.
-fn pull_behind(shape: Shape, tile: &[Cell], at: usize, side: Side) -> i32
-    requires fit { Chargeable shape tile.now }
-    requires inside { at < cells shape }
-    ensures value { result ≡ pull_behind shape tile.now side at }
-    ensures few { unsigned_abs result ≤ most_tie }
-{
-    let step = offset(shape, side);
-    if at >= step {
-        pull(&tile[at], &tile[at - step], tile[at - step].tie(side))
-    } else {
-        0
-    }
-}
-
-// What both ties add.
-fn pull_over(shape: Shape, tile: &[Cell], at: usize, side: Side) -> i32
-    requires fit { Chargeable shape tile.now }
-    requires inside { at < cells shape }
-    ensures value { result ≡ pull_over shape tile.now side at }
-    ensures few { unsigned_abs result ≤ 2 * most_tie }
-{
-    pull_ahead(shape, tile, at, side) + pull_behind(shape, tile, at, side)
-}
-
-// What the ties of a cell add to its charge: those to cells with a lower bracket, minus those to cells with a higher one.
-fn pulls(shape: Shape, tile: &[Cell], at: usize) -> i32
-    requires fit { Chargeable shape tile.now }
-    requires inside { at < cells shape }
-    ensures value { result ≡ pos (tied_to (weighted shape tile.now) at (λ v. lies_below (brackets tile.now) v at)) -ℤ pos (tied_to (weighted shape tile.now) at (λ v. lies_below (brackets tile.now) at v)) }
-    ensures few { unsigned_abs result ≤ 4 * most_tie }
-{
-    pull_over(shape, tile, at, Side::Rightward) + pull_over(shape, tile, at, Side::Downward)
-}
-
 // What the height past the middle of a cell's bracket costs more than the middle.
 fn middle_step<P: PriceRule>(rule: &P, cell: &Cell) -> i32
     ensures { result ≡ stepped (P.PriceRule.rule rule.now) cell.now.reading cell.now.class (middle cell.now.low cell.now.high) }
@@ -94,18 +32,85 @@ fn middle_step<P: PriceRule>(rule: &P, cell: &Cell) -> i32
     rule.step(cell.reading, cell.class, cell.bracket().middle())
 }
 
-// The charge of a cell: 0 where it is settled, else its step at the middle plus its pulls.
-fn charge_at<P: PriceRule>(rule: &P, shape: Shape, tile: &[Cell], at: usize) -> i32
-    requires fit { Chargeable shape tile.now }
-    requires inside { at < cells shape }
-    requires reach { shape.top ≤ (P.PriceRule.rule rule.now).greatest }
-    ensures value { result ≡ charge_in (P.PriceRule.rule rule.now) shape tile.now at }
-    ensures few { unsigned_abs result ≤ most_charge }
-{
-    if tile[at].bracket().is_settled() {
-        return 0;
+// A cell to charge, among the records of its tile.
+#[derive(Clone, Copy)]
+struct Place<'a> {
+    shape: Shape,
+    tile: &'a [Cell],
+    at: usize,
+    ghost fit: { Chargeable shape tile.now },
+    ghost inside: { at < cells shape },
+}
+
+impl<'a> Place<'a> {
+    // How far the next record on a side lies from a record.
+    fn offset(&self, side: Side) -> usize
+        ensures { result ≡ offset self.now.shape.columns side }
+    {
+        match side {
+            Side::Rightward => 1,
+            Side::Downward => self.shape.columns(),
+        }
     }
-    middle_step(rule, &tile[at]) + pulls(shape, tile, at)
+
+    // What the tie adds that the cell's own record stores on a side. At the end of a row the next cell is no neighbour, but
+    // then the tie weighs 0 and adds nothing.
+    fn pull_ahead(&self, side: Side) -> i32
+        ensures value { result ≡ pull_ahead self.now.shape self.now.tile.now side self.now.at }
+        ensures few { unsigned_abs result ≤ most_tie }
+    {
+        let here = &self.tile[self.at];
+        let other = self.at + self.offset(side);
+        if other < self.shape.cells() {
+            pull(here, &self.tile[other], here.tie(side))
+        } else {
+            0
+        }
+    }
+
+    // What the tie adds that the record before the cell's stores on that side. At the start of a row that record ends another
+    // row, and its tie weighs 0.
+    fn pull_behind(&self, side: Side) -> i32
+        ensures value { result ≡ pull_behind self.now.shape self.now.tile.now side self.now.at }
+        ensures few { unsigned_abs result ≤ most_tie }
+    {
+        let step = self.offset(side);
+        if self.at >= step {
+            let other = &self.tile[self.at - step];
+            pull(&self.tile[self.at], other, other.tie(side))
+        } else {
+            0
+        }
+    }
+
+    // What both ties add.
+    fn pull_over(&self, side: Side) -> i32
+        ensures value { result ≡ pull_over self.now.shape self.now.tile.now side self.now.at }
+        ensures few { unsigned_abs result ≤ 2 * most_tie }
+    {
+        self.pull_ahead(side) + self.pull_behind(side)
+    }
+
+    // What the ties of the cell add to its charge: those to cells with a lower bracket, minus those to cells with a higher one.
+    fn pulls(&self) -> i32
+        ensures value { result ≡ pos (tied_to (weighted self.now.shape self.now.tile.now) self.now.at (λ v. lies_below (brackets self.now.tile.now) v self.now.at)) -ℤ pos (tied_to (weighted self.now.shape self.now.tile.now) self.now.at (λ v. lies_below (brackets self.now.tile.now) self.now.at v)) }
+        ensures few { unsigned_abs result ≤ 4 * most_tie }
+    {
+        self.pull_over(Side::Rightward) + self.pull_over(Side::Downward)
+    }
+
+    // The charge of the cell: 0 where it is settled, else its step at the middle plus its pulls.
+    fn charge<P: PriceRule>(&self, rule: &P) -> i32
+        requires { self.now.shape.top ≤ (P.PriceRule.rule rule.now).greatest }
+        ensures value { result ≡ charge_in (P.PriceRule.rule rule.now) self.now.shape self.now.tile.now self.now.at }
+        ensures few { unsigned_abs result ≤ most_charge }
+    {
+        let here = &self.tile[self.at];
+        if here.bracket().is_settled() {
+            return 0;
+        }
+        middle_step(rule, here) + self.pulls()
+    }
 }
 
 // The record with its charge written, and flows, mark and rank at 0.
@@ -129,7 +134,9 @@ pub fn charge<P: PriceRule>(rule: &P, shape: Shape, tile: &mut [Cell])
     ensures value { tile.new ≡ charged (P.PriceRule.rule rule.now) shape tile.old }
     ensures cuttable { Cuttable shape tile.new }
 {
+    // An index: the charge of a record depends on its neighbours, before and behind it.
     for at in 0..shape.cells() {
-        tile[at] = recharged(tile[at], charge_at(rule, shape, tile, at));
+        let charge = Place { shape, tile, at }.charge(rule);
+        tile[at] = recharged(tile[at], charge);
     }
 }

@@ -38,7 +38,7 @@ pub fn narrow(shape: Shape, tile: &mut [Cell])
     requires { Narrowable shape tile.old }
     ensures { tile.new ≡ narrowed shape tile.old }
 {
-    for at in 0..shape.cells() {
-        tile[at] = with_bracket(tile[at], half_marked(tile[at]));
+    for cell in &mut tile[..shape.cells()] {
+        *cell = with_bracket(*cell, half_marked(*cell));
     }
 }

@@ -1,5 +1,5 @@
 // Whether records are sound.
-ghost use Rattle.std.specs.Prelude.{◌<◌, ◌≤◌, length, Decides};
+ghost use Rattle.std.specs.Prelude.{◌<◌, ◌≤◌, ◌↔◌, length, IsTrue};
 ghost use Rattle.tile.specs.Shapes.{cells};
 ghost use Rattle.passes.specs.Writing.{weights};
 ghost use Rattle.passes.specs.Soundness.{SoundReading, SoundTie, SoundTies, SoundBracket, SoundCell, Sound};
@@ -10,7 +10,7 @@ use tile::{Bracket, Cell, Shape, Side};
 
 // May a cell have this reading, of this class?
 pub fn is_reading_sound(top: u16, reading: u16, class: u8) -> bool
-    ensures { Decides result (SoundReading top reading class) }
+    ensures { IsTrue result ↔ (SoundReading top reading class) }
 {
     reading <= top && class <= MAX_CLASS
 }
@@ -18,7 +18,7 @@ pub fn is_reading_sound(top: u16, reading: u16, class: u8) -> bool
 // May the tie on a side of a cell weigh so much?
 fn is_tie_sound(shape: Shape, at: usize, side: Side, weight: u16) -> bool
     requires { at < cells shape }
-    ensures { Decides result (SoundTie shape at side weight) }
+    ensures { IsTrue result ↔ (SoundTie shape at side weight) }
 {
     weight <= MAX_TIE && (weight == 0 || shape.neighbour(at, side).is_some())
 }
@@ -26,41 +26,34 @@ fn is_tie_sound(shape: Shape, at: usize, side: Side, weight: u16) -> bool
 // May the ties of a cell weigh so much?
 pub fn are_ties_sound(shape: Shape, at: usize, right: u16, down: u16) -> bool
     requires { at < cells shape }
-    ensures { Decides result (SoundTies shape at (weights right down)) }
+    ensures { IsTrue result ↔ (SoundTies shape at (weights right down)) }
 {
     is_tie_sound(shape, at, Side::Rightward, right) && is_tie_sound(shape, at, Side::Downward, down)
 }
 
 // Is the bracket one that so many halvings of 0..top leave?
 fn is_bracket_sound(top: u16, done: u8, bracket: Bracket) -> bool
-    ensures { Decides result (SoundBracket top done bracket) }
+    ensures { IsTrue result ↔ (SoundBracket top done bracket) }
 {
-    let own = halving(done, top, bracket.low);
-    bracket.low <= top && bracket.low == own.low && bracket.high == own.high
+    bracket.low <= top && bracket == halving(done, top, bracket.low)
 }
 
 fn is_cell_sound(shape: Shape, done: u8, at: usize, cell: &Cell) -> bool
     requires { at < cells shape }
-    ensures { Decides result (SoundCell shape done at cell.now) }
+    ensures { IsTrue result ↔ (SoundCell shape done at cell.now) }
 {
-    if !is_reading_sound(shape.top(), cell.reading, cell.class) {
-        return false;
-    }
-    if !are_ties_sound(shape, at, cell.right, cell.down) {
-        return false;
-    }
-    is_bracket_sound(shape.top(), done, cell.bracket())
+    is_reading_sound(shape.top(), cell.reading, cell.class)
+        && are_ties_sound(shape, at, cell.right, cell.down)
+        && is_bracket_sound(shape.top(), done, cell.bracket())
 }
 
 // Is every record sound, after so many rounds?
 pub fn is_sound(shape: Shape, done: u8, tile: &[Cell]) -> bool
     requires { cells shape ≤ length tile.now }
-    ensures { Decides result (Sound shape done tile.now) }
+    ensures { IsTrue result ↔ (Sound shape done tile.now) }
 {
-    for at in 0..shape.cells() {
-        if !is_cell_sound(shape, done, at, &tile[at]) {
-            return false;
-        }
-    }
-    true
+    tile[..shape.cells()]
+        .iter()
+        .enumerate()
+        .all(|(at, cell)| is_cell_sound(shape, done, at, cell))
 }

@@ -11,17 +11,8 @@ fn fresh(top: u16) -> Cell
     ensures { result ≡ fresh top }
 {
     Cell {
-        reading: 0,
-        class: 0,
-        right: 0,
-        down: 0,
-        right_flow: 0,
-        down_flow: 0,
-        low: 0,
         high: top,
-        charge: 0,
-        mark: 0,
-        rank: 0,
+        ..Cell::default()
     }
 }
 
@@ -63,9 +54,7 @@ pub fn clear(shape: Shape, tile: &mut [Cell])
     requires { cells shape ≤ length tile.old }
     ensures { tile.new ≡ rewritten (cells shape) (λ _. fresh shape.top) tile.old }
 {
-    for at in 0..shape.cells() {
-        tile[at] = fresh(shape.top());
-    }
+    tile[..shape.cells()].fill(fresh(shape.top()));
 }
 
 // Keeps readings, classes and ties, and writes the rest of every record as `clear` does.
@@ -73,8 +62,8 @@ pub fn reset(shape: Shape, tile: &mut [Cell])
     requires { cells shape ≤ length tile.old }
     ensures { tile.new ≡ rewritten (cells shape) (λ u. reset shape.top (cell tile.old u)) tile.old }
 {
-    for at in 0..shape.cells() {
-        tile[at] = reset_cell(tile[at], shape.top());
+    for cell in &mut tile[..shape.cells()] {
+        *cell = reset_cell(*cell, shape.top());
     }
 }
 

@@ -8,7 +8,7 @@ ghost use Rattle.filter.specs.Runs.{draft, rounding, put_at, tied_at, begun, Beg
 ghost use Rattle.filter.specs.Laws.{EveryRunKeepsTheLaw};
 
 use crate::answers::Refused;
-use crate::states::checking::{fault_of, is_whole, place, put_refusal, tie_refusal};
+use crate::states::checking::{check_tile, is_whole, place};
 use crate::states::{Draft, Rounding};
 use passes::{clear, write_reading, write_ties};
 use tile::{Cell, Refusal, Shape};
@@ -71,11 +71,10 @@ impl Draft {
         ensures goes_on { GoesOn (draft self) tile.old draft draft (put_at (place self.shape row column) reading class) result tile.new }
         ensures law { EveryRunKeepsTheLaw }
     {
-        let shape = self.shape;
-        if let Some(why) = put_refusal(shape, tile, row, column, reading, class) {
+        if let Err(why) = self.check_put(tile, row, column, reading, class) {
             return Err(Refused { state: self, why });
         }
-        write_reading(tile, place(shape, row, column), reading, class);
+        write_reading(tile, place(self.shape, row, column), reading, class);
         Ok(self)
     }
 
@@ -92,11 +91,10 @@ impl Draft {
         ensures goes_on { GoesOn (draft self) tile.old draft draft (tied_at (place self.shape row column) (weights right down)) result tile.new }
         ensures law { EveryRunKeepsTheLaw }
     {
-        let shape = self.shape;
-        if let Some(why) = tie_refusal(shape, tile, row, column, right, down) {
+        if let Err(why) = self.check_tie(tile, row, column, right, down) {
             return Err(Refused { state: self, why });
         }
-        write_ties(tile, place(shape, row, column), right, down);
+        write_ties(tile, place(self.shape, row, column), right, down);
         Ok(self)
     }
 
@@ -106,10 +104,9 @@ impl Draft {
         ensures goes_on { GoesOn (draft self) tile.now draft rounding begun result tile.now }
         ensures law { EveryRunKeepsTheLaw }
     {
-        let shape = self.shape;
-        if let Some(why) = fault_of(shape, 0, tile) {
+        if let Err(why) = check_tile(self.shape, 0, tile) {
             return Err(Refused { state: self, why });
         }
-        Ok(no_round_done(shape))
+        Ok(no_round_done(self.shape))
     }
 }

@@ -6,8 +6,8 @@ ghost use Rattle.filter.specs.Runs.{draft, level, reopened, GoesOn};
 ghost use Rattle.filter.specs.Laws.{EveryRunKeepsTheLaw};
 
 use crate::answers::Refused;
-use crate::states::checking::{cost_refusal, height_refusal, place};
-use crate::states::round_calls::reopen_tile;
+use crate::states::checking::place;
+use crate::states::round_calls::reopen;
 use crate::states::{Draft, Level};
 use price::PriceRule;
 use tile::{Cell, HeightGrid, Refusal, energy};
@@ -33,11 +33,7 @@ impl<'a> HeightGrid for LowEnds<'a> {
     }
 
     fn height(&self, cell: usize) -> u16 {
-        if cell < self.tile.len() {
-            low_end(&self.tile[cell])
-        } else {
-            0
-        }
+        self.tile.get(cell).map_or(0, low_end)
     }
 }
 
@@ -46,20 +42,15 @@ impl Level {
     pub fn height(&self, tile: &[Cell], row: usize, column: usize) -> Result<u16, Refusal>
         ensures { HeightDoes self.now tile.now row column result }
     {
-        let shape = self.shape;
-        if let Some(why) = height_refusal(shape, self.done, tile, row, column) {
-            return Err(why);
-        }
-        Ok(low_end(&tile[place(shape, row, column)]))
+        self.check_height(tile, row, column)?;
+        Ok(low_end(&tile[place(self.shape, row, column)]))
     }
 
     // The energy of the heights under a price rule.
     pub fn cost<P: PriceRule>(&self, tile: &[Cell], rule: &P) -> Result<u64, Refusal>
         ensures { CostDoes (P.PriceRule.rule rule.now) self.now tile.now result }
     {
-        if let Some(why) = cost_refusal(self.shape, self.done, tile, rule.greatest()) {
-            return Err(why);
-        }
+        self.check_cost(tile, rule.greatest())?;
         energy(rule, self.shape, tile, &LowEnds { tile })
     }
 
@@ -69,10 +60,6 @@ impl Level {
         ensures goes_on { GoesOn (level self) tile.old level draft reopened result tile.new }
         ensures law { EveryRunKeepsTheLaw }
     {
-        let shape = self.shape;
-        if let Some(why) = reopen_tile(shape, self.done, tile) {
-            return Err(Refused { state: self, why });
-        }
-        Ok(Draft { shape })
+        reopen(self.shape, self.done, tile, self)
     }
 }

@@ -1,5 +1,5 @@
 // The calls while rounds are done.
-ghost use Rattle.std.specs.Prelude.{◌≡◌, ◌+◌, ◌<◌, ◌≤◌, length, Some as Because, None as Nothing};
+ghost use Rattle.std.specs.Prelude.{◌≡◌, ◌+◌, ◌<◌, ◌≤◌, length};
 ghost use Rattle.limits.specs.Limits.{most_rows, most_rounds};
 ghost use Rattle.tile.specs.Shapes.{cells};
 ghost use Rattle.tile.specs.Tiles.{cell};
@@ -11,48 +11,15 @@ ghost use Rattle.filter.specs.Runs.{draft, rounding, level, rounded, finished, r
 ghost use Rattle.filter.specs.Laws.{EveryRunKeepsTheLaw};
 
 use crate::answers::{Refused, Rounded};
-use crate::states::checking::{fault_of, finish_refusal, round_refusal};
+use crate::states::checking::check_tile;
 use crate::states::{Draft, Level, Rounding};
 use flow::{CutMaker, run_cut};
 use passes::{charge, narrow, reset};
 use price::PriceRule;
 use tile::{Cell, Refusal, Shape};
 
-// Charges the tile, and lets the maker cut it.
-fn charge_and_cut<P: PriceRule, M: CutMaker>(
-    rule: &P,
-    maker: &M,
-    shape: Shape,
-    tile: &mut [Cell],
-    entries: &mut [M::Entry],
-)
-    requires fit { Chargeable shape tile.old }
-    requires reach { shape.top ≤ (P.PriceRule.rule rule.now).greatest }
-    requires room { cells shape ≤ length entries.old }
-    ensures { M.CutMaker.leaves maker.now shape (charged (P.PriceRule.rule rule.now) shape tile.old) tile.new }
-{
-    charge(rule, shape, tile);
-    run_cut(maker, shape, tile, entries);
-}
-
-// The same; the tile that is left can be narrowed.
-fn cut_to_narrow<P: PriceRule, M: CutMaker>(
-    rule: &P,
-    maker: &M,
-    shape: Shape,
-    tile: &mut [Cell],
-    entries: &mut [M::Entry],
-)
-    requires fit { Chargeable shape tile.old }
-    requires reach { shape.top ≤ (P.PriceRule.rule rule.now).greatest }
-    requires room { cells shape ≤ length entries.old }
-    ensures leaves { M.CutMaker.leaves maker.now shape (charged (P.PriceRule.rule rule.now) shape tile.old) tile.new }
-    ensures fit { Narrowable shape tile.new }
-{
-    charge_and_cut(rule, maker, shape, tile, entries);
-}
-
 // Charges the tile, lets the maker cut it, and narrows every bracket.
+#[tactic(auto, using(crate::proofs::Narrowing::cut_narrowable))]
 fn halve<P: PriceRule, M: CutMaker>(
     rule: &P,
     maker: &M,
@@ -65,7 +32,8 @@ fn halve<P: PriceRule, M: CutMaker>(
     requires room { cells shape ≤ length entries.old }
     ensures { HalvedBy (P.PriceRule.rule rule.now) (M.CutMaker.leaves maker.now) shape tile.old tile.new }
 {
-    cut_to_narrow(rule, maker, shape, tile, entries);
+    charge(rule, shape, tile);
+    run_cut(maker, shape, tile, entries);
     narrow(shape, tile);
 }
 
@@ -101,12 +69,11 @@ impl Rounding {
         ensures goes_on { GoesOnUnder (P.PriceRule.rule rule.now) (rounding self) tile.old rounding (λ a. rounding a.state) rounded result tile.new }
         ensures law { EveryRunKeepsTheLaw }
     {
-        let (shape, done) = (self.shape, self.done);
-        if let Some(why) = round_refusal(shape, done, tile, entries.len(), rule.greatest()) {
+        if let Err(why) = self.check_round(tile, entries.len(), rule.greatest()) {
             return Err(Refused { state: self, why });
         }
-        halve(rule, maker, shape, tile, entries);
-        Ok(one_more(shape, done))
+        halve(rule, maker, self.shape, tile, entries);
+        Ok(one_more(self.shape, self.done))
     }
 
     // Ends the rounds, once those due are done. Writes nothing.
@@ -115,11 +82,13 @@ impl Rounding {
         ensures goes_on { GoesOn (rounding self) tile.now rounding level finished result tile.now }
         ensures law { EveryRunKeepsTheLaw }
     {
-        let (shape, done) = (self.shape, self.done);
-        if let Some(why) = finish_refusal(shape, done, tile) {
+        if let Err(why) = self.check_finish(tile) {
             return Err(Refused { state: self, why });
         }
-        Ok(Level { shape, done })
+        Ok(Level {
+            shape: self.shape,
+            done: self.done,
+        })
     }
 
     // Gives the rounds up: keeps readings, classes and ties, and resets the rest as start does.
@@ -128,21 +97,33 @@ impl Rounding {
         ensures goes_on { GoesOn (rounding self) tile.old rounding draft reopened result tile.new }
         ensures law { EveryRunKeepsTheLaw }
     {
-        let shape = self.shape;
-        if let Some(why) = reopen_tile(shape, self.done, tile) {
-            return Err(Refused { state: self, why });
-        }
-        Ok(Draft { shape })
+        reopen(self.shape, self.done, tile, self)
     }
 }
 
-// Resets the records, or answers why that is refused.
-pub(crate) fn reopen_tile(shape: Shape, done: u8, tile: &mut [Cell]) -> Option<Refusal>
-    ensures { TileChecked shape done tile.old (λ e. (result ≡ Because e) × (tile.new ≡ tile.old)) ((result ≡ Nothing) × (tile.new ≡ rewritten (cells shape) (λ u. reset shape.top (cell tile.old u)) tile.old)) }
+// Resets the records, and answers their draft.
+fn reset_draft(shape: Shape, tile: &mut [Cell]) -> Draft
+    requires tall { shape.rows ≤ most_rows }
+    requires whole { cells shape ≤ length tile.old }
+    ensures shape { result.shape ≡ shape }
+    ensures writes { tile.new ≡ rewritten (cells shape) (λ u. reset shape.top (cell tile.old u)) tile.old }
 {
-    if let Some(why) = fault_of(shape, done, tile) {
-        return Some(why);
-    }
     reset(shape, tile);
-    None
+    Draft { shape }
+}
+
+// Goes back to a draft from a state of this shape with so many rounds done.
+pub(crate) fn reopen<S: Drop>(
+    shape: Shape,
+    done: u8,
+    tile: &mut [Cell],
+    state: S,
+) -> Result<Draft, Refused<S>>
+    requires { shape.rows ≤ most_rows }
+    ensures { ReopenDoes state shape done tile.old result tile.new }
+{
+    if let Err(why) = check_tile(shape, done, tile) {
+        return Err(Refused { state, why });
+    }
+    Ok(reset_draft(shape, tile))
 }

@@ -5,19 +5,15 @@ use Rattle.tile.specs.Shapes.{cells}
 use Rattle.passes.proofs.Charges.{ChargedBelow, chargeable_same, charge_more, charged_cuttable}
 use Rattle.passes.proofs.charging.charge.Goals as goal
 
-pub charge_at-requires : goal.charge_at-requires
-charge_at-requires g c = record {
-  fit = chargeable_same (g.P.PriceRule.rule c.args.rule.now) c.args.shape c.args.tile.now c.loop-at.at c.loop-at.tile c.loop-at.invariant c.loop-at.auto.tile c.requires.fit;
-  inside = search rules;
-  reach = c.requires.reach;
-}
+pub invariant_of-charge-clause-fit : goal.invariant_of-charge-clause-fit
+invariant_of-charge-clause-fit g c = chargeable_same (g.P.PriceRule.rule c.args.rule.now) c.args.shape c.args.tile.now c.loop-at.at c.loop-at.tile c.loop-at.invariant c.loop-at.auto.tile c.requires.fit
 
 pub loop-at-preserved : goal.loop-at-preserved
 loop-at-preserved g c =
-    let z = c.charge_at.result in
-    let fits : SFits w32 c.charge_at.result = search rules in
+    let z = c.charge-charge.result in
+    let fits : SFits w32 c.charge-charge.result = search rules in
     charge_more (g.P.PriceRule.rule c.args.rule.now) c.args.shape c.args.tile.now c.loop-at.at c.loop-at.tile c.loop-at.invariant z (to_z w32 (of_z w32 z)) c.recharged.result
-    (omega (arith, c.requires.fit.whole)) c.charge_at.ensures.value c.charge_at.ensures.few (to_z-of_z w32 z fits) c.recharged.ensures
+    (omega (arith, c.requires.fit.whole)) c.charge-charge.ensures.value c.charge-charge.ensures.few (to_z-of_z w32 z fits) c.recharged.ensures
 
 pub returns : goal.returns
 returns g c =

@@ -1,8 +1,8 @@
-use Rattle.std.proofs.Common.{◌≡◌}
-use Rattle.tile.specs.Tiles.{cell}
-use Rattle.passes.specs.Writing.{with_bracket, rewritten}
+use Rattle.std.proofs.Common.{length}
+use Rattle.passes.specs.Writing.{with_bracket}
 use Rattle.passes.specs.Rounds.{half_marked}
+use Rattle.passes.proofs.Rewrites.{PartRewritten}
 use Rattle.passes.proofs.narrowing.narrow.Given as goal
 
-abbrev pub invariant-loop-at : goal.invariant-loop-at
-invariant-loop-at l = l.tile ≡ rewritten l.at (λ u. with_bracket (half_marked (cell l.initial.tile u)) (cell l.initial.tile u)) l.initial.tile
+abbrev pub invariant-loop-cell : goal.invariant-loop-cell
+invariant-loop-cell l = PartRewritten (λ x. with_bracket (half_marked x) x) (length l.initial.cell-items) l.fn.tile l.cell-index l.cell-items

@@ -1,7 +1,7 @@
-use Rattle.std.proofs.Common.{◌≡◌}
-use Rattle.tile.specs.Tiles.{cell}
-use Rattle.passes.specs.Writing.{reset, rewritten}
+use Rattle.std.proofs.Common.{length}
+use Rattle.passes.specs.Writing.{reset}
+use Rattle.passes.proofs.Rewrites.{PartRewritten}
 use Rattle.passes.proofs.writing.reset.Given as goal
 
-abbrev pub invariant-loop-at : goal.invariant-loop-at
-invariant-loop-at l = l.tile ≡ rewritten l.at (λ u. reset l.shape.top (cell l.initial.tile u)) l.initial.tile
+abbrev pub invariant-loop-cell : goal.invariant-loop-cell
+invariant-loop-cell l = PartRewritten (reset l.shape.top) (length l.initial.cell-items) l.fn.tile l.cell-index l.cell-items

@@ -1,12 +1,11 @@
 use Rattle.std.proofs.Common.{refl}
+use Rattle.filter.proofs.Keeps.{every_run}
 use Rattle.filter.proofs.Joining.{begin_met}
-use Rattle.filter.proofs.Outcomes.{mapped, unrefused, one_found, gives}
+use Rattle.filter.proofs.Outcomes.{unrefused}
 use Rattle.filter.proofs.states.Draft.begin.Goals as goal
 
-pub returns-in-Some : goal.returns-in-Some
-returns-in-Some c =
-    let found = gives c.args.self c.in-Some.why in
-    begin_met c.args.self c.args.tile.now _ (mapped found (mapped found (one_found c.in-Some.why)) c.in-Some.ensures)
+pub returns-in-Err-clause-law : goal.returns-in-Err-clause-law
+returns-in-Err-clause-law c = every_run
 
 pub returns : goal.returns
 returns c =

@@ -2,15 +2,13 @@ use Rattle.std.proofs.Common.{◌≡◌, ℕ, set, refl, subst}
 use Rattle.tile.specs.Tiles.{cell}
 use Rattle.passes.specs.Writing.{with_ties, weights}
 use Rattle.filter.specs.Checks.{place}
+use Rattle.filter.proofs.Keeps.{every_run}
 use Rattle.filter.proofs.Joining.{tie_met}
-use Rattle.filter.proofs.Outcomes.{mapped, unrefused, one_found, leaves_all}
+use Rattle.filter.proofs.Outcomes.{unrefused}
 use Rattle.filter.proofs.states.Draft.tie.Goals as goal
 
-pub returns-in-Some : goal.returns-in-Some
-returns-in-Some c =
-    let found = leaves_all c.args.self c.args.tile.now c.in-Some.why in
-    tie_met c.args.self c.args.tile.now c.args.row c.args.column (weights c.args.right c.args.down) _ _
-    (mapped found (mapped found (mapped found (mapped found (one_found c.in-Some.why)))) c.in-Some.ensures)
+pub returns-in-Err-clause-law : goal.returns-in-Err-clause-law
+returns-in-Err-clause-law c = every_run
 
 pub returns : goal.returns
 returns c =

@@ -2,4 +2,4 @@ use Rattle.filter.proofs.Outcomes.{cost_made}
 use Rattle.filter.proofs.states.Level.cost.Goals as goal
 
 pub returns : goal.returns
-returns g c = cost_made (g.P.PriceRule.rule c.args.rule.now) c.args.self.now c.args.tile.now c.greatest.result c.energy.result c.greatest.ensures c.in_default.ensures c.energy.ensures
+returns g c = cost_made (g.P.PriceRule.rule c.args.rule.now) c.args.self.now c.args.tile.now c.greatest.result c.energy.result c.greatest.ensures c.in_ok-check_cost.ensures c.energy.ensures

@@ -6,7 +6,6 @@ ghost use Rattle.theory.specs.Brackets.{middle, lies_below, tied_to};
 ghost use Rattle.tile.specs.Shapes.{cells};
 ghost use Rattle.flow.specs.Networks.{weighted, brackets};
 ghost use Rattle.flow.specs.Points.{Cuttable};
-ghost use Rattle.tile.specs.Ties.{offset};
 ghost use Rattle.passes.specs.Pulls.{pull, pull_ahead, pull_behind, pull_over};
 ghost use Rattle.passes.specs.Writing.{recharged};
 ghost use Rattle.passes.specs.Rounds.{charge_in, charged, Chargeable};
@@ -43,16 +42,6 @@ struct Place<'a> {
 }
 
 impl<'a> Place<'a> {
-    // How far the next record on a side lies from a record.
-    fn offset(&self, side: Side) -> usize
-        ensures { result ≡ offset self.now.shape.columns side }
-    {
-        match side {
-            Side::Rightward => 1,
-            Side::Downward => self.shape.columns(),
-        }
-    }
-
     // What the tie adds that the cell's own record stores on a side. At the end of a row the next cell is no neighbour, but
     // then the tie weighs 0 and adds nothing.
     fn pull_ahead(&self, side: Side) -> i32
@@ -60,7 +49,7 @@ impl<'a> Place<'a> {
         ensures few { unsigned_abs result ≤ most_tie }
     {
         let here = &self.tile[self.at];
-        let other = self.at + self.offset(side);
+        let other = self.at + side.offset(self.shape.columns());
         if other < self.shape.cells() {
             pull(here, &self.tile[other], here.tie(side))
         } else {
@@ -74,7 +63,7 @@ impl<'a> Place<'a> {
         ensures value { result ≡ pull_behind self.now.shape self.now.tile.now side self.now.at }
         ensures few { unsigned_abs result ≤ most_tie }
     {
-        let step = self.offset(side);
+        let step = side.offset(self.shape.columns());
         if self.at >= step {
             let other = &self.tile[self.at - step];
             pull(&self.tile[self.at], other, other.tie(side))

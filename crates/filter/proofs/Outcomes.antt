@@ -39,12 +39,16 @@ abbrev pub Outcome : Type 0
 Outcome = Result (Unit {0}) Refusal
 
 -- where they passed, no refusal is left to explain
-pub none_found : {G : Type 0} (why : Refusal) → ◌≡◌ {A = Outcome} (Ok tt) (Err why) → G
+pub none_found : {G X : Type 0} {x : X} (why : Refusal) → ◌≡◌ {A = Result X Refusal} (Ok x) (Err why) → G
 none_found why e = let z : ◌≡◌ {A = ℕ} 0 1 = cc in absurd (omega arith)
 
-pub unrefused : {n : ℕ} {e : Refusal} {Holds Rest Rest' : Type 0} {Left' : Refusal → Type 0} → (Rest → Rest') →
-    Checked n e Holds (λ why. ◌≡◌ {A = Outcome} (Ok tt) (Err why)) Rest → Checked n e Holds Left' Rest'
+pub unrefused : {n : ℕ} {e : Refusal} {Holds Rest Rest' X : Type 0} {x : X} {Left' : Refusal → Type 0} → (Rest → Rest') →
+    Checked n e Holds (λ why. ◌≡◌ {A = Result X Refusal} (Ok x) (Err why)) Rest → Checked n e Holds Left' Rest'
 unrefused rest = mapped (λ why z. none_found why z) rest
+
+-- the cell that they found
+pub same_found : {X : Type 0} {x y : X} → ◌≡◌ {A = Result X Refusal} (Ok x) (Ok y) → x ≡ y
+same_found e = cc
 
 -- what a refused call leaves: state, tile and history as they were
 pub record Unchanged (x x' : State) (t t' : Tile) (new : History) : Type 0 where

@@ -1,10 +1,10 @@
 // The checks that calls share, in the order of the refusals' numbers.
-ghost use Rattle.std.specs.Prelude.{◌≡◌, ◌<◌, ◌≤◌, ◌↔◌, length, IsTrue, nat_le};
+ghost use Rattle.std.specs.Prelude.{◌≡◌, ◌<◌, ◌≤◌, ◌↔◌, length, IsTrue, IfOk, nat_le};
+ghost use Rattle.limits.specs.declared.refusal.Refusal.TheVariants.{Outside};
 ghost use Rattle.tile.specs.Halving.{RoundsOver};
 ghost use Rattle.tile.specs.Shapes.{cells};
-ghost use Rattle.passes.specs.Soundness.{SoundTies};
 ghost use Rattle.passes.specs.Writing.{weights};
-ghost use Rattle.filter.specs.Checks.{Inside, place, TileChecked, PutChecked, TieChecked, RoundChecked, FinishChecked, HeightChecked, CostChecked};
+ghost use Rattle.filter.specs.Checks.{Checked, Inside, place, TileChecked, PutChecked, TieChecked, RoundChecked, FinishChecked, HeightChecked, CostChecked};
 
 use crate::states::{Draft, Level, Rounding};
 use passes::{are_ties_sound, is_reading_sound, is_sound};
@@ -18,20 +18,16 @@ pub(crate) fn is_whole(shape: Shape, tile: &[Cell]) -> bool
     tile.len() >= shape.cells()
 }
 
-// Are the row and the column within the shape?
-pub(crate) fn is_inside(shape: Shape, row: usize, column: usize) -> bool
-    ensures { IsTrue result ↔ (Inside shape row column) }
+// The number of the cell in a row and a column, where they lie within the shape.
+fn place(shape: Shape, row: usize, column: usize) -> Result<usize, Refusal>
+    ensures place { Checked 4 Outside (Inside shape row column) (λ e. result ≡ Err e) (result ≡ Ok (place shape row column)) }
+    ensures inside { IfOk result (λ at. at < cells shape) }
 {
-    row < shape.rows() && column < shape.columns()
-}
-
-// The number of the cell in a row and a column.
-pub(crate) fn place(shape: Shape, row: usize, column: usize) -> usize
-    requires { Inside shape row column }
-    ensures value { result ≡ place shape row column }
-    ensures inside { result < cells shape }
-{
-    row * shape.columns() + column
+    if row < shape.rows() && column < shape.columns() {
+        Ok(row * shape.columns() + column)
+    } else {
+        Err(Refusal::Outside)
+    }
 }
 
 // Are as many rounds done as are due?
@@ -48,14 +44,6 @@ pub(crate) fn are_rounds_over(shape: Shape, done: u8) -> bool
     are_done(done, rounds_due(shape.top()))
 }
 
-// May the ties of the cell in a row and a column weigh so much?
-fn may_tie(shape: Shape, row: usize, column: usize, right: u16, down: u16) -> bool
-    requires { Inside shape row column }
-    ensures { IsTrue result ↔ (SoundTies shape (place shape row column) (weights right down)) }
-{
-    are_ties_sound(shape, place(shape, row, column), right, down)
-}
-
 // Every call but start begins with this check: there is a record for each cell, and all are sound after so many rounds.
 pub(crate) fn check_tile(shape: Shape, done: u8, tile: &[Cell]) -> Result<(), Refusal>
     ensures { TileChecked shape done tile.now (λ e. result ≡ Err e) (result ≡ Ok tt) }
@@ -70,7 +58,7 @@ pub(crate) fn check_tile(shape: Shape, done: u8, tile: &[Cell]) -> Result<(), Re
 }
 
 impl Draft {
-    // May a cell's reading and class be written?
+    // The cell whose reading and class are to be written, where they may be.
     pub(crate) fn check_put(
         &self,
         tile: &[Cell],
@@ -78,20 +66,19 @@ impl Draft {
         column: usize,
         reading: u16,
         class: u8,
-    ) -> Result<(), Refusal>
-        ensures { PutChecked self.now.shape tile.now row column reading class (λ e. result ≡ Err e) (result ≡ Ok tt) }
+    ) -> Result<usize, Refusal>
+        ensures checked { PutChecked self.now.shape tile.now row column reading class (λ e. result ≡ Err e) (result ≡ Ok (place self.now.shape row column)) }
+        ensures inside { IfOk result (λ at. at < cells self.now.shape) }
     {
         check_tile(self.shape, 0, tile)?;
-        if !is_inside(self.shape, row, column) {
-            return Err(Refusal::Outside);
-        }
+        let at = place(self.shape, row, column)?;
         if !is_reading_sound(self.shape.top(), reading, class) {
             return Err(Refusal::Reading);
         }
-        Ok(())
+        Ok(at)
     }
 
-    // May a cell's ties be written?
+    // The cell whose ties are to be written, where they may be.
     pub(crate) fn check_tie(
         &self,
         tile: &[Cell],
@@ -99,17 +86,16 @@ impl Draft {
         column: usize,
         right: u16,
         down: u16,
-    ) -> Result<(), Refusal>
-        ensures { TieChecked self.now.shape tile.now row column (weights right down) (λ e. result ≡ Err e) (result ≡ Ok tt) }
+    ) -> Result<usize, Refusal>
+        ensures checked { TieChecked self.now.shape tile.now row column (weights right down) (λ e. result ≡ Err e) (result ≡ Ok (place self.now.shape row column)) }
+        ensures inside { IfOk result (λ at. at < cells self.now.shape) }
     {
         check_tile(self.shape, 0, tile)?;
-        if !is_inside(self.shape, row, column) {
-            return Err(Refusal::Outside);
-        }
-        if !may_tie(self.shape, row, column, right, down) {
+        let at = place(self.shape, row, column)?;
+        if !are_ties_sound(self.shape, at, right, down) {
             return Err(Refusal::Tie);
         }
-        Ok(())
+        Ok(at)
     }
 }
 
@@ -149,20 +135,18 @@ impl Rounding {
 }
 
 impl Level {
-    // May a cell's height be read?
+    // The cell whose height is to be read, where it may be.
     pub(crate) fn check_height(
         &self,
         tile: &[Cell],
         row: usize,
         column: usize,
-    ) -> Result<(), Refusal>
-        ensures { HeightChecked self.now.shape self.now.done tile.now row column (λ e. result ≡ Err e) (result ≡ Ok tt) }
+    ) -> Result<usize, Refusal>
+        ensures checked { HeightChecked self.now.shape self.now.done tile.now row column (λ e. result ≡ Err e) (result ≡ Ok (place self.now.shape row column)) }
+        ensures inside { IfOk result (λ at. at < cells self.now.shape) }
     {
         check_tile(self.shape, self.done, tile)?;
-        if !is_inside(self.shape, row, column) {
-            return Err(Refusal::Outside);
-        }
-        Ok(())
+        place(self.shape, row, column)
     }
 
     // May the heights be rated, under a rule of this greatest level?

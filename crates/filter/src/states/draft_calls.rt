@@ -8,7 +8,7 @@ ghost use Rattle.filter.specs.Runs.{draft, rounding, put_at, tied_at, begun, Beg
 ghost use Rattle.filter.specs.Laws.{EveryRunKeepsTheLaw};
 
 use crate::answers::Refused;
-use crate::states::checking::{check_tile, is_whole, place};
+use crate::states::checking::{check_tile, is_whole};
 use crate::states::{Draft, Rounding};
 use passes::{clear, write_reading, write_ties};
 use tile::{Cell, Refusal, Shape};
@@ -71,11 +71,13 @@ impl Draft {
         ensures goes_on { GoesOn (draft self) tile.old draft draft (put_at (place self.shape row column) reading class) result tile.new }
         ensures law { EveryRunKeepsTheLaw }
     {
-        if let Err(why) = self.check_put(tile, row, column, reading, class) {
-            return Err(Refused { state: self, why });
+        match self.check_put(tile, row, column, reading, class) {
+            Ok(at) => {
+                write_reading(tile, at, reading, class);
+                Ok(self)
+            }
+            Err(why) => Err(Refused { state: self, why }),
         }
-        write_reading(tile, place(self.shape, row, column), reading, class);
-        Ok(self)
     }
 
     // Writes one cell's ties to its neighbours on the right and below.
@@ -91,11 +93,13 @@ impl Draft {
         ensures goes_on { GoesOn (draft self) tile.old draft draft (tied_at (place self.shape row column) (weights right down)) result tile.new }
         ensures law { EveryRunKeepsTheLaw }
     {
-        if let Err(why) = self.check_tie(tile, row, column, right, down) {
-            return Err(Refused { state: self, why });
+        match self.check_tie(tile, row, column, right, down) {
+            Ok(at) => {
+                write_ties(tile, at, right, down);
+                Ok(self)
+            }
+            Err(why) => Err(Refused { state: self, why }),
         }
-        write_ties(tile, place(self.shape, row, column), right, down);
-        Ok(self)
     }
 
     // Closes the draft, so that rounds can be done. Writes nothing.

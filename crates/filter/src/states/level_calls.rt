@@ -6,7 +6,6 @@ ghost use Rattle.filter.specs.Runs.{draft, level, reopened, GoesOn};
 ghost use Rattle.filter.specs.Laws.{EveryRunKeepsTheLaw};
 
 use crate::answers::Refused;
-use crate::states::checking::place;
 use crate::states::round_calls::reopen;
 use crate::states::{Draft, Level};
 use price::PriceRule;
@@ -42,8 +41,8 @@ impl Level {
     pub fn height(&self, tile: &[Cell], row: usize, column: usize) -> Result<u16, Refusal>
         ensures { HeightDoes self.now tile.now row column result }
     {
-        self.check_height(tile, row, column)?;
-        Ok(low_end(&tile[place(self.shape, row, column)]))
+        let at = self.check_height(tile, row, column)?;
+        Ok(low_end(&tile[at]))
     }
 
     // The energy of the heights under a price rule.

@@ -9,6 +9,8 @@ ghost use Rattle.flow.specs.Points.{Cuttable, FourPoints, CutMarksAreTheSmallest
 
 use tile::{Cell, Shape};
 
+// A maker is lent plain slices, as a host has them: a value over both would make every maker and every caller take it apart
+// and say that it still holds the same two, which is longer than the two conditions.
 pub trait CutMaker {
     // What the maker keeps for each cell while it works.
     type Entry;

@@ -9,7 +9,8 @@ pub trait HeightGrid {
     fn count(&self) -> usize
         ensures { result ≡ length (heights self.now) };
 
-    // The height of a cell; 0 past the last.
+    // The height of a cell; 0 past the last. Whoever rates a grid has tested its count, so an `Option` would be taken apart
+    // at every cell to no end.
     fn height(&self, cell: usize) -> u16
         ensures { result ≡ slice_index (heights self.now) cell };
 }

@@ -29,9 +29,10 @@ struct Rating<'a, P: PriceRule, G: HeightGrid> {
 }
 
 impl<'a, P: PriceRule, G: HeightGrid> Rating<'a, P, G> {
-    ghost use Rattle.theory.specs.Grids.{energy};
+    ghost use Rattle.std.specs.Prelude.{sum, map};
+    ghost use Rattle.std.specs.List.{range_with_len};
     ghost use Rattle.tile.specs.Shapes.{cells};
-    ghost use Rattle.tile.specs.Tiles.{survey, problem};
+    ghost use Rattle.tile.specs.Tiles.{survey};
     ghost use Rattle.tile.specs.Rating.{height, side_cost, cell_cost};
 
     // What the tie on a side of a cell costs; 0 where there is none.
@@ -67,18 +68,14 @@ impl<'a, P: PriceRule, G: HeightGrid> Rating<'a, P, G> {
 
     // The costs of all cells.
     fn costs(&self) -> u64
-        ensures { result ≡ energy (problem (P.PriceRule.rule self.now.rule.now) self.now.shape (survey self.now.tile.now)) (height (G.HeightGrid.heights self.now.grid.now)) }
+        ensures { result ≡ sum (map (cell_cost (P.PriceRule.rule self.now.rule.now) self.now.shape (survey self.now.tile.now) (height (G.HeightGrid.heights self.now.grid.now))) (range_with_len 0 (cells self.now.shape))) }
     {
-        // A chain with `sum` leaves open that the sum fits, as its closure is generic.
-        let mut sum = 0;
-        for at in 0..self.shape.cells() {
-            sum += self.cell_cost(at);
-        }
-        sum
+        (0..self.shape.cells()).map(|at| self.cell_cost(at)).sum()
     }
 }
 
 // The energy of the heights over the survey that the records hold, whatever they hold.
+#[tactic(auto, using(crate::proofs::Costs::costs_all))]
 pub fn energy<P: PriceRule, G: HeightGrid>(
     rule: &P,
     shape: Shape,

@@ -5,7 +5,6 @@ use crate::rating::energy;
 use crate::shape::Shape;
 use limits::Refusal;
 use price::Squared;
-use std::process::Abort;
 use std::test::Fail;
 
 #[test]
@@ -18,43 +17,23 @@ fn rounds(rt: HostRuntime) {
 }
 
 // The brackets of 0..10 that hold 3 and 7 after so many rounds.
-fn check_halvings(rt: &impl Abort, rounds: u8, three: Bracket, seven: Bracket) {
-    assert_eq!(rt; halving(rounds, 10, 3), three);
-    assert_eq!(rt; halving(rounds, 10, 7), seven);
-}
-
 #[test]
 fn halvings(rt: HostRuntime) {
-    check_halvings(
-        &rt,
-        0,
-        Bracket { low: 0, high: 10 },
-        Bracket { low: 0, high: 10 },
-    );
-    check_halvings(
-        &rt,
-        1,
-        Bracket { low: 0, high: 5 },
-        Bracket { low: 6, high: 10 },
-    );
-    check_halvings(
-        &rt,
-        2,
-        Bracket { low: 3, high: 5 },
-        Bracket { low: 6, high: 8 },
-    );
-    check_halvings(
-        &rt,
-        3,
-        Bracket { low: 3, high: 4 },
-        Bracket { low: 6, high: 7 },
-    );
-    check_halvings(
-        &rt,
-        4,
-        Bracket { low: 3, high: 3 },
-        Bracket { low: 7, high: 7 },
-    );
+    let expected = [
+        ((0, 10), (0, 10)),
+        ((0, 5), (6, 10)),
+        ((3, 5), (6, 8)),
+        ((3, 4), (6, 7)),
+        ((3, 3), (7, 7)),
+    ];
+    for (rounds, (three, seven)) in (0..5).zip(expected) {
+        assert_eq!(rt; halving(rounds, 10, 3), from_to(three));
+        assert_eq!(rt; halving(rounds, 10, 7), from_to(seven));
+    }
+}
+
+fn from_to((low, high): (u16, u16)) -> Bracket {
+    Bracket { low, high }
 }
 
 // A cell of class 1, tied to the right.

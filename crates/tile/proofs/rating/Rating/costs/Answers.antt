@@ -1,13 +1,13 @@
-use Rattle.std.proofs.Common.{arith}
-use Rattle.tile.specs.Tiles.{survey}
-use Rattle.tile.specs.Rating.{height}
-use Rattle.tile.proofs.Costs.{costs_more, costs_all}
+use Rattle.std.proofs.Common.{rules, arith}
+use borrow.Author.Tests.{tests}
+use Rattle.std.proofs.lemmas.Iterator.{YieldsList-from_range}
+use Rattle.std.proofs.lemmas.Iterator.Adapters.{fits_from_length, at_most_from_yields_List}
+use Rattle.std.proofs.lemmas.List.FromFn.{length-range_with_len}
+use Rattle.tile.proofs.Costs.{cells_few}
 use Rattle.tile.proofs.rating.Rating.costs.Goals as goal
 
-pub loop-at-preserved : goal.loop-at-preserved
-loop-at-preserved g c =
-    (costs_more (g.P.PriceRule.rule c.args.self.now.rule.now) c.args.self.now.shape (survey c.args.self.now.tile.now) (height (g.G.HeightGrid.heights c.args.self.now.grid.now)) c.loop-at.at c.loop-at.sum c.cell_cost-sum.result c.loop-at.invariant.0 c.cell_cost-sum.ensures.value, omega arith)
-
-pub returns : goal.returns
-returns g c =
-    costs_all (g.P.PriceRule.rule c.args.self.now.rule.now) c.args.self.now.shape (survey c.args.self.now.tile.now) (height (g.G.HeightGrid.heights c.args.self.now.grid.now)) c.loop-at.at c.loop-at.sum c.loop-at.invariant.0 (omega arith)
+pub sum-requires-clause-fits : goal.sum-requires-clause-fits
+sum-requires-clause-fits g c =
+    fits_from_length _ _ 16384 18446744073709551616
+    (at_most_from_yields_List (YieldsList-from_range 0 c.cells.result c.cells.result c.map.ensures.source (omega arith)) (rw length-range_with_len (omega (arith, cells_few c.args.self.now.shape, c.cells.ensures))))
+    c.map.ensures.closure (omega arith) (λ at cost f k. search (rules, tests))

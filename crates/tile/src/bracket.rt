@@ -53,6 +53,7 @@ fn whole(top: u16) -> Bracket
 }
 
 // The bracket that holds a height after so many halvings of 0..top.
+#[tactic(auto, using(crate::proofs::Halves::halving_more))]
 pub fn halving(rounds: u8, top: u16, height: u16) -> Bracket
     ensures { result ≡ halving rounds top height }
 {
@@ -78,6 +79,7 @@ pub fn rounds_due(top: u16) -> u8
 }
 
 // What is known of halvings.
+#[tactic(auto, using(crate::proofs::Halves::halving_holds, crate::proofs::Halves::halving_below, crate::proofs::Halves::halving_apart, crate::proofs::Halves::halving_ends))]
 pub fn halving_laws()
     ensures holds { HalvingHoldsItsHeight }
     ensures below { HalvingStaysBelowTop }

@@ -40,6 +40,7 @@ fn cut_once<M: CutMaker>(maker: &M, shape: Shape, tile: &mut [Cell], entries: &m
 
 // Cuts a tile once. The marks are the smallest cheapest set of the tile; flows and ranks are free within what this
 // maker may leave.
+#[tactic(auto, using(crate::proofs::Certifies::cut_marks))]
 pub fn run_cut<M: CutMaker>(maker: &M, shape: Shape, tile: &mut [Cell], entries: &mut [M::Entry])
     requires given { Cuttable shape tile.old }
     requires room { cells shape ≤ length entries.old }

@@ -40,6 +40,10 @@ goes {S} {X} {rule} {s} {h} back on {a} answer v {r} e run = subst (λ z. Run ru
 pub broke : {X : Type 0} (answer : Result X Refusal) (why : Refusal) → IsErrAnd answer (λ e. e ≡ why) → answer ≡ Err why
 broke answer why b = let p = err_from_is_err_and answer b in p.1 ∙ ap Err p.2
 
+-- what holds of the refusal holds of that exit
+pub carried : {X : Type 0} (P : Result X Refusal → Type 0) (answer : Result X Refusal) (why : Refusal) → IsErrAnd answer (λ e. e ≡ why) → P (Err why) → P answer
+carried P answer why b p = subst P (sym (broke answer why b)) p
+
 -- ---- begin
 
 pub begins : EveryRunKeepsTheLaw → (d : Draft) (t : Tile) (answer : Result Rounding (Refused Draft)) → BeginDoes d t answer → GoesOn (draft d) t draft rounding begun answer t →

@@ -4,15 +4,12 @@ use Rattle.limits.specs.declared.refusal.Refusal.{Refusal}
 use Rattle.filter.specs.declared.states.Draft.{Draft}
 use Rattle.solve.specs.declared.surveying.Sample.{Sample}
 use Rattle.solve.specs.Surveying.{sample, WritesSample, WritesSamples}
-use Rattle.solve.proofs.Samples.{SamplesFar, none_written, few_samples, one_written, sample_refused, all_written}
+use Rattle.solve.proofs.Samples.{SamplesFar, few_samples, one_written, sample_refused, all_written}
 use Rattle.solve.proofs.Steps.{carried}
 use Rattle.solve.proofs.surveying.write_samples.Goals as goal
 
 pub returns-then-samples-cells : goal.returns-then-samples-cells
 returns-then-samples-cells c = few_samples c.args.draft c.args.tile.now c.args.samples.now c.count_cells-cells.result c.count_cells-cells.ensures c.if-samples-cells.true
-
-pub loop-cell-init : goal.loop-cell-init
-loop-cell-init c = none_written c.args.draft c.args.tile.now c.args.samples.now
 
 -- the sample of a cell, among those of all cells
 same_sample : (xs : List Sample) (n i : ℕ) → n ≤ length xs → i < length (take n xs) → record { inside : i < n; same : sample (take n xs) i ≡ sample xs i }

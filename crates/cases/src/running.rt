@@ -5,7 +5,7 @@ use price::PriceRule;
 use solve::{Sample, solve, solve_samples};
 use std::process::Abort;
 use std::test::Fail;
-use tile::Cell;
+use tile::{Cell, Refusal};
 
 // What the records hold before a start: anything.
 pub const JUNK: Cell = Cell {
@@ -39,18 +39,12 @@ pub fn tied(reading: u16, right: u16) -> Sample {
 
 // What an accepted call answers; a refusal fails the test.
 pub fn accepted<T, S: Drop>(answer: Result<T, Refused<S>>) -> Result<T, Fail> {
-    match answer {
-        Ok(value) => Ok(value),
-        Err(refused) => Err(Fail::new(refused.why.number())),
-    }
+    Ok(answer.map_err(Refusal::from)?)
 }
 
-// The number of a refusal, and 0 for an accepted call.
-pub fn number_of<T: Drop, S: Drop>(answer: Result<T, Refused<S>>) -> u8 {
-    match answer {
-        Ok(_) => 0,
-        Err(refused) => refused.why.number(),
-    }
+// The number of a refusal; none for an accepted call.
+pub fn number_of<T: Drop, E: Into<Refusal> + Drop>(answer: Result<T, E>) -> Option<u8> {
+    answer.err().map(|why| why.into().number())
 }
 
 // Compares every height and the energy with what is expected.

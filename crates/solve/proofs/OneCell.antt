@@ -1,5 +1,5 @@
 -- One cell, from start to level.
-use Rattle.std.proofs.Common.{◌≡◌, ℕ, ◌*◌, ◌≤◌, [], length, take, Ok, Err, Result, sym, refl, subst, ap₂, arith}
+use Rattle.std.proofs.Common.{◌≡◌, ℕ, ◌*◌, ◌≤◌, [], length, take, Ok, Result, sym, refl, subst, ap₂, arith}
 use Rattle.limits.specs.Limits.{most_rows}
 use Rattle.limits.specs.declared.refusal.Refusal.{Refusal}
 use Rattle.price.specs.Rules.{Rule, Lawful}
@@ -14,7 +14,7 @@ use Rattle.solve.specs.Solving.{SolveDoes, Solved}
 use Rattle.solve.specs.Refusing.{SameHistory}
 use Rattle.solve.specs.OneCell.{FinishedRun}
 use Rattle.filter.proofs.Outcomes.{surely}
-use Rattle.solve.proofs.RunsKept.{not_both, run_shape}
+use Rattle.solve.proofs.RunsKept.{run_shape}
 
 ranged : Ranged most_rows 1 1 1
 ranged = record { some_rows = omega arith; few_rows = omega arith; some_columns = omega arith; few_columns = omega arith; some_top = omega arith; low_top = omega arith }
@@ -22,9 +22,6 @@ ranged = record { some_rows = omega arith; few_rows = omega arith; some_columns 
 -- with a record, the start is accepted
 accepted : (t t' : Tile) (answer : Result Draft Refusal) → 1 ≤ length t → StartDoes 1 1 1 t answer t' → Started 1 1 1 t answer t'
 accepted t t' answer some w = surely (omega arith) (surely ranged w)
-
-pub not_started : {G : Type 0} (t t' : Tile) (answer : Result Draft Refusal) (why : Refusal) → answer ≡ Err why → 1 ≤ length t → StartDoes 1 1 1 t answer t' → G
-not_started t t' answer why e some w = let a = accepted t t' answer some w in not_both answer a.draft why a.answers e
 
 -- a solved draft is a finished run
 finished_run : (rule : Rule) → Lawful rule → (s : Shape) (y : Survey) (answer : Result Level Refusal) (t r : Tile) → Solved rule s y answer t r → FinishedRun rule answer

@@ -17,7 +17,7 @@ use Rattle.filter.specs.declared.states.Draft.{Draft}
 use Rattle.filter.specs.declared.answers.Refused.{Refused}
 use Rattle.filter.specs.Checks.{Checked, refused, passed, Inside, place, PutChecked, TieChecked}
 use Rattle.filter.specs.Calls.{LeavesAll, PutDoes, TieDoes}
-use Rattle.filter.specs.Runs.{put_at, tied_at, History, updated, surveyed, draft, Lent, Run, GoesOn}
+use Rattle.filter.specs.Runs.{put_at, tied_at, History, updated, draft, Lent, Run, GoesOn}
 use Rattle.filter.specs.Laws.{EveryRunKeepsTheLaw}
 use Rattle.filter.proofs.Outcomes.{mapped, followed, surely}
 use Rattle.solve.specs.declared.surveying.Sample.{Sample}
@@ -83,28 +83,11 @@ ties_up law d t u row column x answer t' at does on rule lawful s h whole inside
     end ok = subst (λ (p : ℕ). Run rule s (tied_at p (ties x) ∷ h) (draft d) (take (cells s) t')) (spot d.shape u row column at)
         (goes draft draft answer d ok (on rule s h (take (cells s) t) (take (cells s) t') run (Lent.all whole)))
 
-pub not_put : (d : Draft) (t : Tile) (u : ℕ) (x : Sample) (why : Refusal) (answer : Result Draft Refusal) (t' : Tile) → answer ≡ Err why → PutsSample d t u x (Err why) t' → WritesSample d t u x answer t'
-not_put d t u x why answer t' same put rule lawful s h whole inside run =
-    followed (λ _ e z. same ∙ z) (λ _ a. not_both (Err why) a.answered why a.answers refl) (put rule lawful s h whole inside run)
-
-pub put_and_tied : (d : Draft) (t : Tile) (u : ℕ) (x : Sample) (d' : Draft) (t' : Tile) (answer : Result Draft Refusal) (t'' : Tile) → length t' ≡ length t →
-    PutsSample d t u x (Ok d') t' → TiesSample d' t' u x answer t'' → WritesSample d t u x answer t''
-put_and_tied d t u x d' t' answer t'' long put tie rule lawful s h whole inside run =
-    followed (λ _ e z. not_both (Ok d') d' e refl z)
-    (λ _ a. tie rule lawful s (put_at u x.reading x.class ∷ h) (omega arith) inside (is_next a.answered (cc a.answers) a.run))
-    (put rule lawful s h whole inside run)
-  where
-    is_next : (z : Draft) → z ≡ d' → Run rule s (put_at u x.reading x.class ∷ h) (draft z) (take (cells s) t') → Run rule s (put_at u x.reading x.class ∷ h) (draft d') (take (cells s) t')
-    is_next z e k = subst (λ (v : Draft). Run rule s (put_at u x.reading x.class ∷ h) (draft v) (take (cells s) t')) e k
-
 -- ---- the survey that samples are
 
 no_ties : (d : Side) → 0 ≡ weights 0 0 d
 no_ties Rightward = refl
 no_ties Downward = refl
-
-nothing_sampled : (xs : List Sample) → surveyed [] ≡ sampled (take 0 xs)
-nothing_sampled xs = λ j. record { reading = λ _. 0; class = λ _. 0; tie = λ _ d. no_ties d j }
 
 -- one sample more
 one_sampled : (f : Sample → ℕ) (xs : List Sample) (i u : ℕ) → i < length xs → cond (eqb i u) (f (sample xs i)) (f (sample (take i xs) u)) ≡ f (sample (take (i + 1) xs) u)
@@ -167,9 +150,6 @@ pub record SamplesIn (rule : Rule) (s : Shape) (xs : List Sample) (i : ℕ) (d :
 -- the invariant of the loop
 abbrev pub SamplesFar : Draft → Tile → List Sample → ℕ → Draft → Tile → Type 0
 SamplesFar d t xs i d' t' = (rule : Rule) → Lawful rule → (s : Shape) → cells s ≤ length t → Run rule s [] (draft d) (take (cells s) t) → SamplesIn rule s xs i d' t'
-
-pub none_written : (d : Draft) (t : Tile) (xs : List Sample) → SamplesFar d t xs 0 d t
-none_written d t xs rule lawful s whole run = record { led = record { history = []; same_survey = nothing_sampled xs; run = run }; sound = λ u l. absurd (omega arith) }
 
 -- one cell more, by the checks that its sample passed
 more : (rule : Rule) (s : Shape) (xs : List Sample) (i : ℕ) (z : Draft) (w : Tile) (z' : Draft) (w' : Tile) → i < length xs → (far : SamplesIn rule s xs i z w) →

@@ -4,12 +4,11 @@ use Rattle.std.proofs.lemmas.List.{get_or-take}
 use Rattle.std.proofs.lemmas.Result.{err_from_is_err_and}
 use Rattle.std.proofs.lemmas.Bool.{cases_lt}
 use Rattle.limits.specs.declared.refusal.Refusal.{Refusal}
-use Rattle.limits.specs.declared.refusal.Refusal.TheVariants.{NoRoundLeft}
 use Rattle.price.specs.Rules.{Rule, Lawful}
 use Rattle.theory.proofs.Locals.{lowest_same}
 use Rattle.tile.specs.declared.cell.Cell.{Cell}
 use Rattle.tile.specs.declared.shape.Shape.{Shape}
-use Rattle.tile.specs.Halving.{RoundsOver, RoundLeft, RoundsDue}
+use Rattle.tile.specs.Halving.{RoundsOver, RoundsDue}
 use Rattle.tile.specs.Shapes.{cells}
 use Rattle.tile.specs.Tiles.{Tile, Survey, blank, problem}
 use Rattle.tile.proofs.Joins.{ties_join_cells}
@@ -18,7 +17,7 @@ use Rattle.filter.specs.declared.states.Rounding.{Rounding}
 use Rattle.filter.specs.declared.states.Level.{Level}
 use Rattle.filter.specs.declared.answers.Refused.{Refused}
 use Rattle.filter.specs.declared.answers.Rounded.{Rounded}
-use Rattle.filter.specs.Checks.{Checked, refused, passed, TileChecked, RoundChecked, FinishChecked}
+use Rattle.filter.specs.Checks.{passed, TileChecked, RoundChecked, FinishChecked}
 use Rattle.filter.specs.Calls.{GivesBack, LeavesAll, Begun, BeginDoes, RoundedBy, RoundDoes, FinishedBy, FinishDoes, heights}
 use Rattle.filter.specs.Runs.{begun, rounded, finished, History, surveyed, State, draft, rounding, level, added, next, Lent, Run, GoesOn, GoesOnUnder}
 use Rattle.filter.specs.Laws.{EveryRunKeepsTheLaw}
@@ -39,6 +38,10 @@ goes {S} {X} {rule} {s} {h} back on {a} answer v {r} e run = subst (λ z. Run ru
 -- what the exit of a `?` returns
 pub broke : {X : Type 0} (answer : Result X Refusal) (why : Refusal) → IsErrAnd answer (λ e. e ≡ why) → answer ≡ Err why
 broke answer why b = let p = err_from_is_err_and answer b in p.1 ∙ ap Err p.2
+
+-- what holds of the refusal holds of that exit
+pub carried : {X : Type 0} (P : Result X Refusal → Type 0) (answer : Result X Refusal) (why : Refusal) → IsErrAnd answer (λ e. e ≡ why) → P (Err why) → P answer
+carried P answer why b p = subst P (sym (broke answer why b)) p
 
 -- ---- begin
 
@@ -110,57 +113,6 @@ pub record SoFar (rule : Rule) (s : Shape) (y : Survey) (n : ℕ) (t : Tile) (i 
 -- the invariant of the loop
 abbrev pub RoundsFar : Rule → Rounding → Tile → (entries i : ℕ) → Rounding → Tile → Type 0
 RoundsFar rule x t n i x' t' = From rule x t (λ s h. x.done ≡ 0 → SoFar rule s (surveyed h) n t i x' t')
-
-pub none_yet : (rule : Rule) (x : Rounding) (t : Tile) (n : ℕ) → RoundsFar rule x t n 0 x t
-none_yet rule x t n s h whole run zero =
-    record { done = zero; led = record { history = h; same_survey = refl; run = run }; untouched = λ _. refl; served = λ lt. absurd (omega arith) }
-
--- one round more, by the checks that it passed
-more : (rule : Rule) (s : Shape) (h : History) (t : Tile) (n i : ℕ) (z : Rounding) (w : Tile) (z' : Rounding) (w' : Tile) →
-    (far : SoFar rule s (surveyed h) n t i z w) →
-    RoundsChecked s n rule.greatest (RefusedAs w (Ok z') w')
-    (Checked 9 NoRoundLeft (RoundLeft s.top z.done) (RefusedAs w (Ok z') w') (RoundedTo rule s (surveyed far.led.history) (z.done + 1) (Ok z') (take (cells s) w'))) →
-    SoFar rule s (surveyed h) n t (i + 1) z' w'
-more rule s h t n i z w z' w' far (refused _ _ k) = not_both (Ok z') z' _ refl k.0
-more rule s h t n i z w z' w' far (passed room (refused _ _ k)) = not_both (Ok z') z' _ refl k.0
-more rule s h t n i z w z' w' far (passed room (passed reach (refused _ _ k))) = not_both (Ok z') z' _ refl k.0
-more rule s h t n i z w z' w' far (passed room (passed reach (passed _ a))) =
-    let same : a.answered ≡ z' = cc a.answers in
-    record {
-      done = ap (λ (x : Rounding). x.done) (sym same) ∙ a.done_now ∙ ap (λ (k : ℕ). k + 1) far.done;
-      led = record {
-        history = a.led.history;
-        same_survey = a.led.same_survey ∙ far.led.same_survey;
-        run = subst (λ (x : Rounding). Run rule s a.led.history (rounding x) (take (cells s) w')) same a.led.run;
-      };
-      untouched = λ e. absurd (omega arith);
-      served = λ _. (room, reach);
-    }
-
-pub one_more : (rule : Rule) (x : Rounding) (t : Tile) (n i : ℕ) (z : Rounding) (w : Tile) (z' : Rounding) (w' : Tile) → length w ≡ length t →
-    RoundsOnce rule z w n (Ok z') w' → RoundsFar rule x t n i z w → RoundsFar rule x t n (i + 1) z' w'
-one_more rule x t n i z w z' w' long once inv s h whole run zero =
-    let far = inv s h whole run zero in
-    more rule s h t n i z w z' w' far (once s far.led.history (omega arith) far.led.run)
-
--- before the rounds due are done, a round is left
-pub round_left : (top due i : ℕ) → RoundsDue top due → i < due → RoundLeft top i
-round_left top due i is_due lt = ⊎_elim (λ (l : 2 ^ i < top + 1). l) (λ (over : top + 1 ≤ 2 ^ i). absurd (omega (arith, is_due.least i over))) (cases_lt (2 ^ i) (top + 1))
-
--- what fails now and sufficed for every round before was never tried
-unserved : {C E : Type 0} (i : ℕ) → (0 < i → C) → (C → ⊥) → (i ≡ 0 → E) → E
-unserved i served fails none = ⊎_elim (λ (lt : 0 < i). absurd (fails (served lt))) (λ (le : i ≤ 0). none (omega arith)) (cases_lt 0 i)
-
--- a refused round was the first
-pub stopped : (rule : Rule) (x : Rounding) (t : Tile) (due n i : ℕ) (z : Rounding) (w : Tile) (why : Refusal) (w' : Tile) → length w ≡ length t → i < due →
-    RoundsOnce rule z w n (Err why) w' → RoundsFar rule x t n i z w → RoundsAll rule x t due n (Err why) w'
-stopped rule x t due n i z w why w' long lt once inv s h whole run zero is_due =
-    let far = inv s h whole run zero in
-    let left : RoundLeft s.top z.done = subst (λ (k : ℕ). RoundLeft s.top k) (sym far.done) (round_left s.top due i is_due lt) in
-    followed (λ fails e k. (k.0, k.1 ∙ unserved i (λ l. (far.served l).0) fails far.untouched))
-    (λ _. followed (λ fails e k. (k.0, k.1 ∙ unserved i (λ l. (far.served l).1) fails far.untouched))
-    (λ _ rest. (let a = surely left rest in not_both (Err why) a.answered why a.answers refl)))
-    (once s far.led.history (omega arith) far.led.run)
 
 -- the rounds due are some, so that entries and rule sufficed
 pub all_done : (rule : Rule) (x : Rounding) (t : Tile) (due n : ℕ) (z : Rounding) (w : Tile) → RoundsFar rule x t n due z w → RoundsAll rule x t due n (Ok z) w

@@ -1,5 +1,5 @@
 -- Samples surveyed and solved, from what start, the writing of samples and solve do.
-use Rattle.std.proofs.Common.{◌≡◌, ℕ, ◌*◌, ◌≤◌, List, length, take, Ok, Err, Result, refl, ◌∙◌, subst, ap₂, arith}
+use Rattle.std.proofs.Common.{◌≡◌, ℕ, ◌*◌, ◌≤◌, List, length, take, Ok, Err, Result, refl, subst, ap₂, arith}
 use Rattle.limits.specs.Limits.{most_rows}
 use Rattle.limits.specs.declared.refusal.Refusal.{Refusal}
 use Rattle.price.specs.Rules.{Rule, Lawful}
@@ -15,15 +15,7 @@ use Rattle.solve.specs.declared.surveying.Sample.{Sample}
 use Rattle.solve.specs.Solving.{RoundsChecked, Solved, SolveDoes}
 use Rattle.solve.specs.Surveying.{sampled, Surveyed, WritesSamples, SampledAndSolved, SamplesDo}
 use Rattle.solve.proofs.RunsKept.{not_both}
-use Rattle.solve.proofs.Steps.{same_refusal}
 use Rattle.solve.proofs.Samples.{samples_mapped}
-
--- start was refused
-pub not_started : (rule : Rule) (rows columns top : ℕ) (xs : List Sample) (t : Tile) (n : ℕ) (why : Refusal) (answer : Result Level Refusal) (t' : Tile) → answer ≡ Err why →
-    StartDoes rows columns top t (Err why) t' → SamplesDo rule rows columns top xs t n answer t'
-not_started rule rows columns top xs t n why answer t' same start =
-    mapped (λ e z. (same ∙ same_refusal why e z.0, z.1))
-    (mapped (λ e z. (same ∙ same_refusal why e z.0, z.1)) (λ a. not_both (Err why) a.draft why a.answers refl)) start
 
 -- The samples were written, or refused. Where they were refused so is the whole; where they were not, the rest of it is as
 -- solve says.

@@ -20,13 +20,11 @@ fn due_rounds(draft: &Draft) -> u8
 fn begin_rounds(draft: Draft, tile: &[Cell]) -> Result<Rounding, Refusal>
     ensures { BeginsRounds draft tile.now result }
 {
-    match draft.begin(tile) {
-        Ok(rounding) => Ok(rounding),
-        Err(refused) => Err(refused.why),
-    }
+    Ok(draft.begin(tile)?)
 }
 
-// Does one round.
+// Does one round. Rule, maker and entries come one by one: a struct would hold the entries' `&mut`, and every contract would
+// have to add that rule and maker stay.
 fn do_round<P: PriceRule, M: CutMaker>(
     rounding: Rounding,
     tile: &mut [Cell],
@@ -36,10 +34,7 @@ fn do_round<P: PriceRule, M: CutMaker>(
 ) -> Result<Rounding, Refusal>
     ensures { RoundsOnce (P.PriceRule.rule rule.now) rounding tile.old (length entries.old) result tile.new }
 {
-    match rounding.round(tile, rule, maker, entries) {
-        Ok(rounded) => Ok(rounded.state),
-        Err(refused) => Err(refused.why),
-    }
+    Ok(rounding.round(tile, rule, maker, entries)?.state)
 }
 
 // Does the rounds due.
@@ -64,10 +59,7 @@ fn do_rounds<P: PriceRule, M: CutMaker>(
 fn finish_rounds(rounding: Rounding, tile: &[Cell]) -> Result<Level, Refusal>
     ensures { FinishesRounds rounding tile.now result }
 {
-    match rounding.finish(tile) {
-        Ok(level) => Ok(level),
-        Err(refused) => Err(refused.why),
-    }
+    Ok(rounding.finish(tile)?)
 }
 
 // Solves a draft: where a tile has been drafted by accepted calls, its low ends become the lowest cheapest grid of what the

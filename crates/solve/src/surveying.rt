@@ -48,10 +48,7 @@ fn put_sample(
     ensures { PutsSample draft tile.old cell sample result tile.new }
 {
     let (row, column) = position(&draft, cell);
-    match draft.put(tile, row, column, sample.reading, sample.class) {
-        Ok(draft) => Ok(draft),
-        Err(refused) => Err(refused.why),
-    }
+    Ok(draft.put(tile, row, column, sample.reading, sample.class)?)
 }
 
 // Ties a cell as a sample says.
@@ -64,10 +61,7 @@ fn tie_sample(
     ensures { TiesSample draft tile.old cell sample result tile.new }
 {
     let (row, column) = position(&draft, cell);
-    match draft.tie(tile, row, column, sample.right, sample.down) {
-        Ok(draft) => Ok(draft),
-        Err(refused) => Err(refused.why),
-    }
+    Ok(draft.tie(tile, row, column, sample.right, sample.down)?)
 }
 
 // Writes a sample into a cell.
@@ -92,8 +86,8 @@ fn write_samples(draft: Draft, tile: &mut [Cell], samples: &[Sample]) -> Result<
         return Err(Refusal::FewRecords);
     }
     let mut state = draft;
-    for cell in 0..cells {
-        state = write_sample(state, tile, cell, samples[cell])?;
+    for (cell, sample) in samples[..cells].iter().enumerate() {
+        state = write_sample(state, tile, cell, *sample)?;
     }
     Ok(state)
 }

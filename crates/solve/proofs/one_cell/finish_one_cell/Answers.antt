@@ -1,9 +1,6 @@
-use Rattle.std.proofs.Common.{length, refl}
-use Rattle.solve.proofs.OneCell.{not_started, one_finished}
+use Rattle.std.proofs.Common.{length}
+use Rattle.solve.proofs.OneCell.{one_finished}
 use Rattle.solve.proofs.one_cell.finish_one_cell.Goals as goal
-
-pub returns-in_err-draft : goal.returns-in_err-draft
-returns-in_err-draft g c some room = not_started c.args.tile.now _ _ c.in_err-draft.field-0.0 refl some c.in_err-draft.ensures.does
 
 pub returns : goal.returns
 returns g c some room =

@@ -1,9 +1,14 @@
 use Rattle.std.proofs.Common.{Ok, Err}
-use Rattle.solve.proofs.Steps.{begins}
+use Rattle.solve.specs.Solving.{BeginsRounds}
+use Rattle.solve.proofs.Steps.{begins, carried}
 use Rattle.solve.proofs.solving.begin_rounds.Goals as goal
 
-pub returns-in-Ok : goal.returns-in-Ok
-returns-in-Ok c = let k = c.in-Ok.ensures in begins k.law c.args.draft c.args.tile.now (Ok c.in-Ok.rounding) k.does k.goes_on
+pub returns-in_err-begin : goal.returns-in_err-begin
+returns-in_err-begin c =
+    let k = c.in_err-begin.ensures in
+    let refused = c.in_err-begin.field-0.0 in
+    carried (BeginsRounds c.args.draft c.args.tile.now) c.from_residual.result refused.why c.from_residual.ensures.1
+    (begins k.law c.args.draft c.args.tile.now (Err refused) k.does k.goes_on)
 
-pub returns-in-Err : goal.returns-in-Err
-returns-in-Err c = let k = c.in-Err.ensures in begins k.law c.args.draft c.args.tile.now (Err c.in-Err.refused) k.does k.goes_on
+pub returns : goal.returns
+returns c = let k = c.in_ok-begin.ensures in begins k.law c.args.draft c.args.tile.now (Ok c.in_ok-begin.field-0) k.does k.goes_on

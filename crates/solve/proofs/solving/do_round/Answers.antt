@@ -1,13 +1,18 @@
-use Rattle.std.proofs.Common.{length, Ok, Err}
-use Rattle.solve.proofs.Steps.{rounds_once}
+use Rattle.std.proofs.Common.{length, Ok, Err, Result}
+use Rattle.limits.specs.declared.refusal.Refusal.{Refusal}
+use Rattle.filter.specs.declared.states.Rounding.{Rounding}
+use Rattle.solve.specs.Solving.{RoundsOnce}
+use Rattle.solve.proofs.Steps.{rounds_once, carried}
 use Rattle.solve.proofs.solving.do_round.Goals as goal
 
-pub returns-in-Ok : goal.returns-in-Ok
-returns-in-Ok g c =
-    let k = c.in-Ok.ensures in
-    rounds_once k.law (g.P.PriceRule.rule c.args.rule.now) (g.met.P.PriceRule.lawful c.args.rule.now) (g.M.CutMaker.leaves c.args.maker.now) c.args.rounding c.args.tile.now (length c.args.entries.now) (Ok c.in-Ok.rounded) _ k.does k.goes_on
+pub returns-in_err-round : goal.returns-in_err-round
+returns-in_err-round g c =
+    let k = c.in_err-round.ensures in
+    let refused = c.in_err-round.field-0.0 in
+    carried (λ (a : Result Rounding Refusal). RoundsOnce (g.P.PriceRule.rule c.args.rule.now) c.args.rounding c.args.tile.now (length c.args.entries.now) a c.round.new.tile) c.from_residual.result refused.why c.from_residual.ensures.1
+    (rounds_once k.law (g.P.PriceRule.rule c.args.rule.now) (g.met.P.PriceRule.lawful c.args.rule.now) (g.M.CutMaker.leaves c.args.maker.now) c.args.rounding c.args.tile.now (length c.args.entries.now) (Err refused) _ k.does k.goes_on)
 
-pub returns-in-Err : goal.returns-in-Err
-returns-in-Err g c =
-    let k = c.in-Err.ensures in
-    rounds_once k.law (g.P.PriceRule.rule c.args.rule.now) (g.met.P.PriceRule.lawful c.args.rule.now) (g.M.CutMaker.leaves c.args.maker.now) c.args.rounding c.args.tile.now (length c.args.entries.now) (Err c.in-Err.refused) _ k.does k.goes_on
+pub returns : goal.returns
+returns g c =
+    let k = c.in_ok-round.ensures in
+    rounds_once k.law (g.P.PriceRule.rule c.args.rule.now) (g.met.P.PriceRule.lawful c.args.rule.now) (g.M.CutMaker.leaves c.args.maker.now) c.args.rounding c.args.tile.now (length c.args.entries.now) (Ok c.in_ok-round.field-0) _ k.does k.goes_on

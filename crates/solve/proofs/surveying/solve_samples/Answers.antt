@@ -3,14 +3,8 @@ use Rattle.price.specs.Rules.{Rule}
 use Rattle.tile.specs.Shapes.{cells}
 use Rattle.solve.proofs.RunsKept.{not_both}
 use Rattle.solve.proofs.Steps.{broke, same_refusal}
-use Rattle.solve.proofs.Surveys.{not_started, started_and_written, solved_from}
+use Rattle.solve.proofs.Surveys.{started_and_written, solved_from}
 use Rattle.solve.proofs.surveying.solve_samples.Goals as goal
-
-pub returns-in_err-draft : goal.returns-in_err-draft
-returns-in_err-draft g c =
-    let why = c.in_err-draft.field-0.0 in
-    not_started (g.P.PriceRule.rule c.args.rule.now) c.args.rows c.args.columns c.args.top c.args.samples.now c.args.tile.now (length c.args.entries.now) why c.from_residual.result c.start.new.tile
-    (broke c.from_residual.result why c.from_residual.ensures.1) c.in_err-draft.ensures.does
 
 pub returns-in_err-draft-2 : goal.returns-in_err-draft-2
 returns-in_err-draft-2 g c =

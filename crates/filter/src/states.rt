@@ -26,7 +26,8 @@ pub struct Rounding {
     ghost few: { done ≤ most_rounds },
 }
 
-// The rounds due are done: every cell has one height.
+// The rounds due are done: every cell has one height. A `Rounding` has the same numbers; a struct for what both hold would put
+// one more name into each of their contracts.
 #[derive(Drop)]
 pub struct Level {
     shape: Shape,

@@ -12,20 +12,18 @@ use job::made::job_of;
 use price::PriceRule;
 use rating::{cheapest, energies};
 use std::io;
-use tile::{Cell, Shape};
 
 // One line: the rule, the energy of each candidate, and the name of the cheapest.
 fn print_rates<P: PriceRule>(
     rt: &impl Print,
     rule_name: &str,
     rule: &P,
-    shape: Shape,
-    tile: &[Cell],
+    job: &Job,
 ) -> io::Result<()> {
     match energies(
         rule,
-        shape,
-        tile,
+        job.shape,
+        &job.tile,
         &sample::READINGS,
         &sample::FLAT,
         &sample::WALL,
@@ -41,9 +39,9 @@ fn print_rates<P: PriceRule>(
 
 fn print_job(rt: &impl Print, job: &Job) -> io::Result<()> {
     println!(rt; "rule readings flat wall cheapest")?;
-    print_rates(rt, "absolute", &job.absolute, job.shape, &job.tile)?;
-    print_rates(rt, "squared", &job.squared, job.shape, &job.tile)?;
-    print_rates(rt, "leaning", &job.leaning, job.shape, &job.tile)
+    print_rates(rt, "absolute", &job.absolute, job)?;
+    print_rates(rt, "squared", &job.squared, job)?;
+    print_rates(rt, "leaning", &job.leaning, job)
 }
 
 fn main(rt: HostRuntime) -> io::Result<()> {

@@ -15,6 +15,8 @@ pub fn is_reading_sound(top: u16, reading: u16, class: u8) -> bool
     reading <= top && class <= MAX_CLASS
 }
 
+// A cell comes as its shape and its number, which a struct with the condition that it lies inside would only wrap for a call.
+
 // May the tie on a side of a cell weigh so much?
 fn is_tie_sound(shape: Shape, at: usize, side: Side, weight: u16) -> bool
     requires { at < cells shape }

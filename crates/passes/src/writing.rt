@@ -49,7 +49,8 @@ fn with_ties(cell: Cell, right: u16, down: u16) -> Cell
     }
 }
 
-// Makes every record fresh.
+// Makes every record fresh. That there is a record for each cell is asked of the slice: a struct over a `&mut` would have to say
+// in each contract that it still holds the same one.
 pub fn clear(shape: Shape, tile: &mut [Cell])
     requires { cells shape ≤ length tile.old }
     ensures { tile.new ≡ rewritten (cells shape) (λ _. fresh shape.top) tile.old }

@@ -68,7 +68,7 @@ pub fn reset(shape: Shape, tile: &mut [Cell])
     }
 }
 
-// Writes one cell's reading and class.
+// Writes one cell's reading and class. These, and the two ties below, come plain, as a host hands them to the calls.
 pub fn write_reading(tile: &mut [Cell], at: usize, reading: u16, class: u8)
     requires { at < length tile.old }
     ensures { tile.new ≡ slice_set tile.old at (with_reading reading class (cell tile.old at)) }

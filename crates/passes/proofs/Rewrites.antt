@@ -1,7 +1,7 @@
 -- A loop that writes the first records anew, one after the other.
-use Rattle.std.proofs.Common.{◌≡◌, ℕ, ◌+◌, ◌-◌, ◌<◌, ◌≤◌, List, [], ◌∷◌, ◌++◌, map, length, take, drop, set, replicate, sym, ap, ◌∙◌, append_assoc, arith}
+use Rattle.std.proofs.Common.{◌≡◌, ℕ, ◌+◌, ◌-◌, ◌<◌, ◌≤◌, List, [], ◌∷◌, ◌++◌, map, length, drop, set, replicate, sym, ap, ◌∙◌, append_assoc, arith}
 use Rattle.std.specs.List.{range_with_len}
-use Rattle.std.proofs.lemmas.List.{get_or_append_left, get_or-append_right, get_or-drop, drop_more, set-append_right, set-append_left, take-append-drop, length-append, length-drop, length-take-le}
+use Rattle.std.proofs.lemmas.List.{get_or_append_left, get_or-append_right, get_or-drop, drop_more, set-append_right, set-append_left, length-append, length-drop}
 use Rattle.std.proofs.lemmas.List.FromFn.{length-map-range_with_len, get_or-map-range_with_len, map-range_with_len_more, length-range_with_len}
 use Rattle.std.proofs.lemmas.Simd.{splat_is_map}
 use Rattle.tile.specs.declared.cell.Cell.{Cell}
@@ -48,22 +48,9 @@ remake_step f t i l y lt inv e = rewrite_step (λ u. f (cell t u)) t i l y lt in
 abbrev pub PartRewritten : (Cell → Cell) → ℕ → Tile → ℕ → Tile → Type 0
 PartRewritten f n t i l = l ++ drop n t ≡ rewritten i (λ u. f (cell t u)) t
 
-pub part_begun : (f : Cell → Cell) (n : ℕ) (t : Tile) → n ≤ length t → PartRewritten f (length (take n t)) t 0 (take n t)
-part_begun f n t le = ap (λ k. take n t ++ drop k t) (length-take-le n t le) ∙ take-append-drop n t
-
--- the record that is next is as it was
-pub part_next : (f : Cell → Cell) (n : ℕ) (t : Tile) (i : ℕ) (l : Tile) → PartRewritten f n t i l → i < length l → cell l i ≡ cell t i
-part_next f n t i l inv inside =
-    sym (get_or_append_left l (drop n t) blank i inside) ∙ ap (λ z. cell z i) inv ∙ cell_past i (λ u. f (cell t u)) t i (omega arith)
-
 pub part_more : (f : Cell → Cell) (n : ℕ) (t : Tile) (i : ℕ) (l : Tile) (y : Cell) → PartRewritten f n t i l → i < length l → i < length t → y ≡ f (cell l i) → PartRewritten f n t (i + 1) (set l i y)
 part_more f n t i l y inv inside lt e =
     sym (set-append_left l (drop n t) i y inside) ∙ remake_step f t i (l ++ drop n t) y lt inv (e ∙ ap f (sym (get_or_append_left l (drop n t) blank i inside)))
-
-pub part_done : (f : Cell → Cell) (n m : ℕ) (t : Tile) (i : ℕ) (l : Tile) → n ≤ length t → n ≡ m → PartRewritten f (length (take n t)) t i l → i ≡ length (take n t) → l ++ drop n t ≡ rewritten m (λ u. f (cell t u)) t
-part_done f n m t i l le same inv end =
-    let long : length (take n t) ≡ n = length-take-le n t le in
-    ap (λ k. l ++ drop k t) (sym long) ∙ inv ∙ ap (λ k. rewritten k (λ u. f (cell t u)) t) (end ∙ long ∙ same)
 
 -- the same record in place of each of the first n
 pub filled : (n : ℕ) (x : Cell) (t : Tile) → replicate n x ++ drop n t ≡ rewritten n (λ _. x) t

@@ -15,10 +15,10 @@ loop-at-preserved g c =
     charge_more (g.P.PriceRule.rule c.args.rule.now) c.args.shape c.args.tile.now c.loop-at.at c.loop-at.tile c.loop-at.invariant z (to_z w32 (of_z w32 z)) c.recharged.result
     (omega (arith, c.requires.fit.whole)) c.charge-charge.ensures.value c.charge-charge.ensures.few (to_z-of_z w32 z fits) c.recharged.ensures
 
-pub returns : goal.returns
-returns g c =
+pub returns-clause-cuttable : goal.returns-clause-cuttable
+returns-clause-cuttable g c =
     let rule : Rule = g.P.PriceRule.rule c.args.rule.now in
     let end : c.loop-at.at ≡ cells c.args.shape = omega arith in
     let all : ChargedBelow rule c.args.shape c.args.tile.now (cells c.args.shape) c.loop-at.tile
     = subst (λ (n : ℕ). ChargedBelow rule c.args.shape c.args.tile.now n c.loop-at.tile) end c.loop-at.invariant in
-    record { value = all.records; cuttable = charged_cuttable rule c.args.shape c.args.tile.now c.loop-at.tile c.requires.fit all }
+    charged_cuttable rule c.args.shape c.args.tile.now c.loop-at.tile c.requires.fit all

@@ -20,7 +20,7 @@ pub fn try_outside(draft: Draft, tile: &mut [Cell]) -> Draft
     ensures same_history { SameHistory draft tile.old result tile.new }
 {
     let row = row_outside(&draft);
-    // By `unwrap_or_else` the same history is not proved.
+    // `unwrap_or_else` is no shorter, and its history needs a proof by hand.
     match draft.put(tile, row, 0, 0, 0) {
         Ok(draft) => draft,
         Err(refused) => refused.state,

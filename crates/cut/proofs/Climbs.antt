@@ -1,5 +1,6 @@
 -- One step of a climb.
-use Rattle.std.proofs.Common.{◌≡◌, ℕ, zero, suc, ◌+◌, ◌-◌, ◌<◌, ◌≤◌, Bool, true, false, cond, eqb, leb, ◌⊎◌, length, ℤ, pos, negsuc, ◌+ℤ◌, ◌-ℤ◌, neg_ℤ, ◌≤ℤ◌, ◌<ℤ◌, sym, refl, ap, ◌∙◌, subst, inl, inr, ⊎_elim, arith}
+use Rattle.std.proofs.Common.{◌≡◌, ℕ, zero, suc, ◌+◌, ◌-◌, ◌<◌, ◌≤◌, Bool, true, false, cond, eqb, leb, ◌⊎◌, Some, None, Option, length, ℤ, pos, negsuc, ◌+ℤ◌, ◌-ℤ◌, neg_ℤ, ◌≤ℤ◌, ◌<ℤ◌, sym, refl, ap, ◌∙◌, subst, inl, inr, ⊎_elim, arith}
+use Rattle.std.specs.Prelude.{MatchOption}
 use borrow.Author.Differences.{down}
 use Rattle.std.proofs.lemmas.Bool.{cases_lt, eq-eqb, ne_eqb, lt-ltb, le-leb, leb-true}
 use Rattle.std.proofs.lemmas.Int.{ints, by_lt_z}
@@ -10,11 +11,11 @@ use Rattle.tile.specs.declared.side.Side.{Side}
 use Rattle.tile.specs.Records.{stored_flow}
 use Rattle.tile.specs.Tiles.{Tile, cell}
 use Rattle.theory.specs.Sums.{sum}
-use Rattle.flow.specs.Sides.{beside, has_beside, opposite, room_forth, room_back, room, remains, lack, total_lack, InDeficit, InSurplus, SameSurvey, Admissible, Eased, Sent, add_flow, pushed}
+use Rattle.flow.specs.Sides.{beside, has_beside, opposite, room_forth, room_back, room, remains, lack, total_lack, InDeficit, InSurplus, SameSurvey, Eased, Sent, add_flow, pushed}
 use Rattle.tile.specs.Ties.{offset}
 use Rattle.cut.specs.Ranks.{rank_of}
 use Rattle.cut.specs.Searches.{Parent}
-use Rattle.cut.specs.Climbs.{Higher, Above, Relieved}
+use Rattle.cut.specs.Climbs.{RankedSurplus, FoundSurplus, Higher, IsHigher, Above, Relieved}
 use Rattle.flow.proofs.Fields.{live_still, weight_still, still_added}
 use Rattle.flow.proofs.Pushes.{flow_after, room_there, back_across, remains_pushed, rank_pushed, eased_trans}
 
@@ -137,21 +138,29 @@ never_none_at c t v k l s le a n =
     (λ (p : Parent c t v). n (opposite p.side) (higher_from c t v p))
     (a v l le)
 
-module _ (c : ℕ) (t t' : Tile) (v u : ℕ) (h : Direction) (r : Bool) (sd : Admissible c t) (l : v < length t) (sp : InSurplus t c v) (hi : Higher c t v h) (ue : u ≡ beside c h v) (st : Sent c (opposite h) u t t' r) where
+-- what u has room for towards v
+pub roomy_back : (c : ℕ) (t : Tile) (v u : ℕ) (h g : Direction) → IsHigher c t v h u → g ≡ opposite h → pos 0 <ℤ room t c g u
+roomy_back c t v u h g hi ge = subst (λ (x : Direction). pos 0 <ℤ room t c x u) (sym ge) (subst (λ (x : ℕ). pos 0 <ℤ room t c (opposite h) x) (sym hi.at) hi.higher.roomy)
+
+-- u lies in direction h from v, one rank higher, and has sent back to v
+module _ (c : ℕ) (t t' : Tile) (v u : ℕ) (h g : Direction) (r : Bool) (sp : InSurplus t c v) (hi : IsHigher c t v h u) (ge : g ≡ opposite h) (sent : Sent c g u t t' r) where
+  st : Sent c (opposite h) u t t' r
+  st = subst (λ (x : Direction). Sent c x u t t' r) ge sent
+
   comes : beside c (opposite h) u ≡ v
-  comes = ap (beside c (opposite h)) ue ∙ hi.comes
+  comes = ap (beside c (opposite h)) hi.at ∙ hi.higher.comes
 
   lu : u < length t
-  lu = subst (λ (x : ℕ). x < length t) (sym ue) hi.inside
+  lu = subst (λ (x : ℕ). x < length t) (sym hi.at) hi.higher.inside
 
   ranks : rank_of t u ≡ rank_of t v + 1
-  ranks = ap (rank_of t) ue ∙ hi.rank_up
+  ranks = ap (rank_of t) hi.at ∙ hi.higher.rank_up
 
   leads : has_beside c (length t) (opposite h) u ≡ true
-  leads = subst (λ (x : ℕ). has_beside c (length t) (opposite h) x ≡ true) (sym ue) hi.leads
+  leads = subst (λ (x : ℕ). has_beside c (length t) (opposite h) x ≡ true) (sym hi.at) hi.higher.leads
 
   moved : (f : ℤ) × (pos 0 <ℤ f) × (f ≤ℤ room t c (opposite h) u) × (f ≤ℤ remains t c (beside c (opposite h) u)) × (t' ≡ pushed t c (opposite h) u f)
-  moved = st.moved (st.sure (subst (λ (x : ℕ). pos 0 <ℤ room t c (opposite h) x) (sym ue) hi.roomy) (subst (λ (x : ℕ). InSurplus t c x) (sym comes) sp))
+  moved = st.moved (st.sure (subst (λ (x : ℕ). pos 0 <ℤ room t c (opposite h) x) (sym hi.at) hi.higher.roomy) (subst (λ (x : ℕ). InSurplus t c x) (sym comes) sp))
 
   remains_after : (x : ℕ) → remains t' c x ≡ (remains t c x +ℤ cond (eqb x u) moved.0 (pos 0)) -ℤ cond (eqb x v) moved.0 (pos 0)
   remains_after x =
@@ -214,3 +223,8 @@ relieved_after c t t' t'' e r = record { eased = eased_trans c t t' t'' e r.ease
 
 pub relieved_then : (c : ℕ) (t t' t'' : Tile) → Relieved c t t' → Eased c t' t'' → Relieved c t t''
 relieved_then c t t' t'' r e = record { eased = eased_trans c t t' t'' r.eased e; fewer = omega (arith, r.fewer, lack_eased c t' t'' e) }
+
+-- a search over all cells: each has been asked, or one was found
+pub found_surplus : (c : ℕ) (t : Tile) (r : Option ℕ) → MatchOption r ((k : ℕ) → 0 ≤ k → k < length t → RankedSurplus c t k → ⊥) (λ v. (0 ≤ v) × (v < length t) × RankedSurplus c t v × ((k : ℕ) → 0 ≤ k → k < v → RankedSurplus c t k → ⊥)) → FoundSurplus c t r
+found_surplus c t None n = λ u l p s. n u (omega arith) l (p, s)
+found_surplus c t (Some v) f = (f.1, f.2.0, f.2.1)

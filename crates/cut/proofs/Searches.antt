@@ -189,17 +189,6 @@ grows_trans t t' t'' p q = record {
   ranks = λ u o. q.ranks u (subst (λ (k : ℕ). 0 < k) (sym (p.ranks u o)) o) ∙ p.ranks u o;
 }
 
-pub begin_none : (c : ℕ) (t : Tile) → ((b : ℕ) → rank_of t b ≡ 0) → Searching c t [] 0
-begin_none c t z = record {
-  tree = λ u l p. absurd (omega (arith, z u));
-  deficits = λ u l s. absurd (omega arith);
-  closed = λ u l p. absurd (omega (arith, z u));
-  inside = tt;
-  deep = λ u l p. absurd (omega (arith, z u));
-  few = omega arith;
-  high = λ u l. omega (arith, z u);
-}
-
 pub seen_more : (c : ℕ) (t : Tile) (q : List ℕ) (i : ℕ) → Searching c t q i → (InDeficit t c i → 0 < rank_of t i) → Searching c t q (i + 1)
 seen_more c t q i s k = record {
   tree = s.tree;

@@ -1,23 +1,29 @@
 -- One more cell in a search, with entries of any kind.
 use Rattle.std.specs.Prelude.{⊤}
-use Rattle.std.proofs.Common.{◌≡◌, ℕ, ◌+◌, ◌-◌, ◌<◌, ◌≤◌, ◌⊎◌, List, [], ◌∷◌, ◌++◌, map, length, ℤ, pos, ◌<ℤ◌, Some, None, Option, Ok, Err, Result, sym, ap, ◌∙◌, subst, inl, inr, ⊎_elim, arith}
+use Rattle.std.proofs.Common.{◌≡◌, ℕ, ◌+◌, ◌-◌, ◌<◌, ◌≤◌, ◌⊎◌, List, [], ◌∷◌, ◌++◌, map, length, ℤ, pos, ◌<ℤ◌, Some, None, Option, Ok, Err, Result, get_or, below_more, refl, sym, ap, ◌∙◌, subst, inl, inr, ⊎_elim, arith}
 use Rattle.std.specs.List.{AllByRecursion as All}
 use Rattle.std.proofs.lemmas.List.{length_push, length-map, map_push}
 use Rattle.std.proofs.ByRecursion.{All-push, All-weaker}
 use Rattle.std.proofs.lemmas.Bool.{cases_eq}
+use Rattle.std.proofs.lemmas.Int.{ints}
 use Rattle.queue.proofs.Waits.{last_with_room}
-use Rattle.queue.specs.Queue.{waits, Enqueued}
-use Rattle.queue.specs.Queue.{capacity}
+use Rattle.queue.specs.Queue.{waits, capacity, Enqueued, Dequeued}
 use Rattle.queue.specs.declared.Queue.{Queue}
 use Rattle.flow.specs.declared.direction.Direction.{Direction}
-use Rattle.flow.specs.declared.direction.Direction.TheVariants.{Right, Down, Left, Up}
+use Rattle.flow.specs.declared.direction.Direction.TheVariants.{Right}
+use Rattle.flow.specs.declared.flows.Flows.{Flows}
 use Rattle.tile.specs.Tiles.{Tile}
 use Rattle.flow.specs.Sides.{beside, opposite, room, remains, SameFlows, InDeficit, InSurplus}
 use Rattle.cut.specs.Ranks.{rank_of, ranked_at}
-use Rattle.cut.specs.Searches.{Among, Spread, Searching, Grows, load, spots, Backed, AllInside, Looks, Visited, Visits}
+use Rattle.cut.specs.Searches.{Among, Searching, Fresh, Grows, load, spots, BackTo, Backed, AllInside, Looks, Visited, Visits, Goes, GoesOn, Started, Ranked}
+use Rattle.cut.specs.Climbs.{NoneInSurplus, Above}
+use Rattle.flow.specs.Lent.{SameRows}
+use Rattle.cut.specs.Lent.{Leveled}
+use Rattle.cut.proofs.Directions.{ways, every_way}
+use Rattle.cut.proofs.Lent.{leveled_self, leveled_trans}
 use Rattle.flow.proofs.Fields.{remains_level}
 use Rattle.flow.proofs.Pushes.{room_there, back_across}
-use Rattle.cut.proofs.Searches.{level_ranked, rank_here, rank_other, count_up, not_all, among_old, among_new, grows_ranked, grows_self, grows_trans, spread_grows, search_put, search_done, search_add, seen_more}
+use Rattle.cut.proofs.Searches.{level_ranked, rank_here, rank_other, count_up, not_all, among_old, among_new, grows_ranked, grows_self, grows_trans, spread_grows, search_put, search_done, search_add, seen_more, begin_not}
 
 -- for entries of any kind, by the cell of an entry and the direction back
 module _ {X : Type 0} (spot : X → ℕ) (came : X → Option Direction) where
@@ -59,15 +65,11 @@ module _ {X : Type 0} (spot : X → ℕ) (came : X → Option Direction) where
             (cases_eq x v);
       }
 
-  pub visited_put : (c u : ℕ) (h : Direction) (from : Option Direction) (t t' : Tile) (r r' : Queue X) (s : X) (v : ℕ) (b : Result ⊤ X) → Looks spot came c u from t r → v ≡ beside c h u → v < length t → pos 0 <ℤ room t c h u → rank_of t v ≡ 0 → t' ≡ ranked_at t v (rank_of t u - 1) → Enqueued r r' s b → spot s ≡ v → ((h' : Direction) → came s ≡ Some h' → h' ≡ opposite h) → Visited spot came c u h t t' r r'
-  visited_put c u h from t t' r r' s v b k e l o z te p se sf =
-      let te' : t' ≡ ranked_at t (beside c h u) (rank_of t u - 1) = te ∙ ap (λ (x : ℕ). ranked_at t x (rank_of t u - 1)) e in
+  pub visited_put : (c u : ℕ) (h : Direction) (from : Option Direction) (t t' : Tile) (r r' : Queue X) (s : X) (v : ℕ) (b : Result ⊤ X) → Looks spot came c u from t r → Fresh c t u h v → t' ≡ ranked_at t v (rank_of t u - 1) → Enqueued r r' s b → spot s ≡ v → ((h' : Direction) → came s ≡ Some h' → h' ≡ opposite h) → Visited spot came c u h t t' r r'
+  visited_put c u h from t t' r r' s v b k w te p se sf =
+      let te' : t' ≡ ranked_at t (beside c h u) (rank_of t u - 1) = te ∙ ap (λ (x : ℕ). ranked_at t x (rank_of t u - 1)) w.at in
       subst (λ (x : Tile). Visited spot came c u h t x r r') (sym te')
-      (visited_at c u h from t r r' s b k (subst (λ (x : ℕ). x < length t) e l) o (subst (λ (x : ℕ). rank_of t x ≡ 0) e z) p (se ∙ e) sf)
-
-  -- a cell that is reached gets a rank above 0
-  pub rank_left : (c u : ℕ) (h : Direction) (from : Option Direction) (t : Tile) (r : Queue X) (v : ℕ) → Looks spot came c u from t r → v ≡ beside c h u → v < length t → pos 0 <ℤ room t c h u → rank_of t v ≡ 0 → 1 < rank_of t u
-  rank_left c u h from t r v k e l o z = (search_put c t (spots spot r) (length t) u h k.search (subst (λ (x : ℕ). x < length t) e l) o (subst (λ (x : ℕ). rank_of t x ≡ 0) e z)).0
+      (visited_at c u h from t r r' s b k (subst (λ (x : ℕ). x < length t) w.at w.inside) w.open' (subst (λ (x : ℕ). rank_of t x ≡ 0) w.at w.none) p (se ∙ w.at) sf)
 
   -- on to the next side
   pub looks_on : (c u : ℕ) (h : Direction) (from : Option Direction) (t t' : Tile) (r r' : Queue X) → Looks spot came c u from t r → capacity r' ≡ capacity r → Visited spot came c u h t t' r r' → Looks spot came c u from t' r'
@@ -85,45 +87,6 @@ module _ {X : Type 0} (spot : X → ℕ) (came : X → Option Direction) where
       (λ (q : Among x (spots spot r2)). inr q)
       (b x p)
 
-  pub visits_all : (c u : ℕ) (t t1 t2 t3 t4 : Tile) (r r1 r2 r3 r4 : Queue X) → Visited spot came c u Right t t1 r r1 → Visited spot came c u Down t1 t2 r1 r2 → Visited spot came c u Left t2 t3 r2 r3 → Visited spot came c u Up t3 t4 r3 r4 → Visits spot came c u t t4 r r4
-  visits_all c u t t1 t2 t3 t4 r r1 r2 r3 r4 a b d e =
-      let g34 = e.grows in
-      let g24 = grows_trans t2 t3 t4 d.grows g34 in
-      let g14 = grows_trans t1 t2 t4 b.grows g24 in
-      let all : Spread c t4 u = λ h. elim h as (λ (x : Direction). pos 0 <ℤ room t4 c x u → 0 < rank_of t4 (beside c x u)) [
-        | Right ↦ spread_grows c t1 t4 u g14 Right a.done
-        | Down ↦ spread_grows c t2 t4 u g24 Down b.done
-        | Left ↦ spread_grows c t3 t4 u g34 Left d.done
-        | Up ↦ e.done
-      ] in
-      let o34 = e.olds in
-      let o24 : (x : ℕ) → Among x (spots spot r2) → Among x (spots spot r4) = λ x w. e.olds x (d.olds x w) in
-      let o14 : (x : ℕ) → Among x (spots spot r1) → Among x (spots spot r4) = λ x w. e.olds x (d.olds x (b.olds x w)) in
-      let n34 = e.news in
-      let n24 = trans_news t2 t3 t4 r3 r4 o34 d.news n34 in
-      let n14 = trans_news t1 t2 t4 r2 r4 o24 b.news n24 in
-      record {
-        grows = grows_trans t t1 t4 a.grows g14;
-        keeps = search_done c t4 (spots spot r4) (length t4) u e.keeps all;
-        load_same = omega (arith, a.load_same, b.load_same, d.load_same, e.load_same);
-        backs = e.backs;
-        olds = λ x w. e.olds x (d.olds x (b.olds x (a.olds x w)));
-        news = trans_news t t1 t4 r1 r4 o14 a.news n14;
-      }
-
-  -- one more deficit cell
-  pub begin_root : (c : ℕ) (t t' : Tile) (r r' : Queue X) (s : X) (i n : ℕ) (b : Result ⊤ X) → Searching c t (spots spot r) i → length t ≤ capacity r → i < length t → n ≡ length t → rank_of t i ≡ 0 → InDeficit t c i → t' ≡ ranked_at t i n → Enqueued r r' s b → spot s ≡ i → Searching c t' (spots spot r') (i + 1) × (waits r' ≡ waits r ++ s ∷ [])
-  begin_root c t t' r r' s i n b k f l ne z sh te p se =
-      let na = not_all t i l z in
-      let t1 : Tile = ranked_at t i n in
-      let len = length-map (waits r) spot in
-      let q = last_with_room r r' s b p (omega (arith, k.few)) in
-      let qs : spots spot r' ≡ spots spot r ++ i ∷ [] = ap (map spot) q ∙ map_push spot (waits r) s ∙ ap (λ (x : ℕ). spots spot r ++ x ∷ []) se in
-      let sh' : InDeficit t1 c i = subst (λ (x : ℤ). x <ℤ pos 0) (sym (remains_level t t1 (level_ranked t i n) c i)) sh in
-      let a : Searching c t1 (spots spot r ++ i ∷ []) i = search_add c t (spots spot r) i i n k l z (omega arith) (omega arith) (omega arith) (inl sh') in
-      let w = seen_more c t1 (spots spot r ++ i ∷ []) i a (λ _. omega (arith, rank_here t i n l)) in
-      (subst (λ (x : Tile). Searching c x (spots spot r') (i + 1)) (sym te) (subst (λ (x : List ℕ). Searching c t1 x (i + 1)) (sym qs) w), q)
-
   -- the next entry is fetched
   pub seek_looks : (c : ℕ) (t : Tile) (r r1 : Queue X) (s : X) → Searching c t (spots spot r) (length t) → length t ≤ capacity r → All (Backed spot came c t) (waits r) → waits r ≡ s ∷ waits r1 → capacity r1 ≡ capacity r → Looks spot came c (spot s) (came s) t r1
   seek_looks c t r r1 s k f b q e =
@@ -135,7 +98,178 @@ module _ {X : Type 0} (spot : X → ℕ) (came : X → Option Direction) where
         backs = b'.1;
       }
 
-  pub calm_after : (c : ℕ) (t t' : Tile) (r r1 r2 : Queue X) (s : X) → ((x : ℕ) → 0 < rank_of t x → Among x (spots spot r) ⊎ (InSurplus t c x → ⊥)) → waits r ≡ s ∷ waits r1 → (InSurplus t c (spot s) → ⊥) → Visits spot came c (spot s) t t' r1 r2 → (x : ℕ) → 0 < rank_of t' x → Among x (spots spot r2) ⊎ (InSurplus t' c x → ⊥)
+  pub load_pop : (c : ℕ) (t t' : Tile) (r r1 r2 : Queue X) (s : X) → waits r ≡ s ∷ waits r1 → Visits spot came c (spot s) t t' r1 r2 → load t' (spots spot r2) < load t (spots spot r)
+  load_pop c t t' r r1 r2 s q v = omega (arith, v.load_same, ap length (ap (map spot) q))
+
+  -- the same, seen from the tile before
+  pub inside_on : (t t' : Tile) (q q' : Queue X) → SameFlows t t' → (AllInside spot t' q → AllInside spot t' q') → AllInside spot t q → AllInside spot t q'
+  inside_on t t' q q' l f a =
+      subst (λ (n : ℕ). All (λ x. spot x < n) (waits q')) l.long (f (subst (λ (n : ℕ). All (λ x. spot x < n) (waits q)) (sym l.long) a))
+
+  -- an entry more, where there is room for it, keeps all inside
+  pub inside_more : (n : ℕ) (q q' : Queue X) (e : X) (b : Result ⊤ X) → Enqueued q q' e b → spot e < n → All (λ x. spot x < n) (waits q) → All (λ x. spot x < n) (waits q')
+  inside_more n q q' e (Ok _) p l a = subst (All (λ x. spot x < n)) (sym p.last) (All-push (λ x. spot x < n) (waits q) e a l)
+  inside_more n q q' e (Err _) p l a = subst (λ (k : Queue X). All (λ x. spot x < n) (waits k)) (sym p.unchanged.1) a
+
+  pub goes_none : (e : X) (h : Direction) (f : Flows) (r : Queue X) → (BackTo f.columns f.tile.now (spot e) (came e) → pos 0 <ℤ room f.tile.now f.columns h (spot e) → 0 < rank_of f.tile.now (beside f.columns h (spot e))) → Goes spot came e h f f r r
+  goes_none e h f r d = record { level = leveled_self f; rooms = refl; inside = λ a. a; search = λ k. visited_none f.columns (spot e) h (came e) f.tile.now r k (d k.back_to) }
+
+  pub goes_put : (e : X) (h : Direction) (f f' : Flows) (r r' : Queue X) (s : X) (u v n : ℕ) (b : Result ⊤ X) → u ≡ spot e → Fresh f.columns f.tile.now u h v → SameRows f f' → n ≡ rank_of f.tile.now u - 1 → f'.tile.now ≡ ranked_at f.tile.now v n → Enqueued r r' s b → spot s ≡ v → ((h' : Direction) → came s ≡ Some h' → h' ≡ opposite h) → Goes spot came e h f f' r r'
+  goes_put e h f f' r r' s u v n b ue w rows ne te p se sf =
+      let w' : Fresh f.columns f.tile.now (spot e) h v = subst (λ (x : ℕ). Fresh f.columns f.tile.now x h v) ue w in
+      let te' : f'.tile.now ≡ ranked_at f.tile.now v (rank_of f.tile.now (spot e) - 1) = te ∙ ap (ranked_at f.tile.now v) (ne ∙ ap (λ (x : ℕ). rank_of f.tile.now x - 1) ue) in
+      record {
+        level = record { rows = rows; holds = subst (SameFlows f.tile.now) (sym te') (level_ranked f.tile.now v (rank_of f.tile.now (spot e) - 1)) };
+        rooms = p.room;
+        inside = inside_more (length f.tile.now) r r' s b p (subst (λ (x : ℕ). x < length f.tile.now) (sym se) w.inside);
+        search = λ k. visited_put f.columns (spot e) h (came e) f.tile.now f'.tile.now r r' s v b k w' te' p se sf;
+      }
+
+  -- a search has gone over the first n directions out of u
+  pub record Gone (c u : ℕ) (from : Option Direction) (n : ℕ) (t t' : Tile) (r r' : Queue X) : Type 0 where
+    pub looks : Looks spot came c u from t' r'
+    pub grows : Grows t t'
+    pub done : (k : ℕ) → k < n → pos 0 <ℤ room t' c (get_or ways k Right) u → 0 < rank_of t' (beside c (get_or ways k Right) u)
+    pub load_same : load t' (spots spot r') ≤ load t (spots spot r)
+    pub olds : (x : ℕ) → Among x (spots spot r) → Among x (spots spot r')
+    pub news : (x : ℕ) → 0 < rank_of t' x → (0 < rank_of t x) ⊎ Among x (spots spot r')
+
+  gone_more : (c u : ℕ) (from : Option Direction) (n : ℕ) (t t1 t2 : Tile) (r r1 r2 : Queue X) → Gone c u from n t t1 r r1 → capacity r2 ≡ capacity r1 → Visited spot came c u (get_or ways n Right) t1 t2 r1 r2 → Gone c u from (n + 1) t t2 r r2
+  gone_more c u from n t t1 t2 r r1 r2 g e v = record {
+    looks = looks_on c u (get_or ways n Right) from t1 t2 r1 r2 g.looks e v;
+    grows = grows_trans t t1 t2 g.grows v.grows;
+    done = below_more _ _ (λ k l. spread_grows c t1 t2 u v.grows (get_or ways k Right) (g.done k l)) v.done;
+    load_same = omega (arith, g.load_same, v.load_same);
+    olds = λ x w. v.olds x (g.olds x w);
+    news = trans_news t t1 t2 r1 r2 v.olds g.news v.news;
+  }
+
+  gone_all : (c u : ℕ) (from : Option Direction) (n : ℕ) (t t' : Tile) (r r' : Queue X) → 4 ≤ n → Gone c u from n t t' r r' → Visits spot came c u t t' r r'
+  gone_all c u from n t t' r r' l g = record {
+    grows = g.grows;
+    keeps = search_done c t' (spots spot r') (length t') u g.looks.search (every_way (λ h. pos 0 <ℤ room t' c h u → 0 < rank_of t' (beside c h u)) n l g.done);
+    load_same = g.load_same;
+    backs = g.looks.backs;
+    olds = g.olds;
+    news = g.news;
+  }
+
+  -- the same over the records that flows borrow
+  pub record Going (e : X) (n : ℕ) (f f' : Flows) (r r' : Queue X) : Type 0 where
+    pub level : Leveled f f'
+    pub rooms : capacity r' ≡ capacity r
+    pub inside : AllInside spot f.tile.now r → AllInside spot f.tile.now r'
+    pub search : Looks spot came f.columns (spot e) (came e) f.tile.now r → Gone f.columns (spot e) (came e) n f.tile.now f'.tile.now r r'
+
+  pub going_more : (e : X) (n : ℕ) (f f1 f2 : Flows) (r r1 r2 : Queue X) → Going e n f f1 r r1 → Goes spot came e (get_or ways n Right) f1 f2 r1 r2 → Going e (n + 1) f f2 r r2
+  going_more e n f f1 f2 r r1 r2 g v = record {
+    level = leveled_trans f f1 f2 g.level v.level;
+    rooms = v.rooms ∙ g.rooms;
+    inside = λ a. inside_on f.tile.now f1.tile.now r1 r2 g.level.holds v.inside (g.inside a);
+    search = λ k.
+        let a = g.search k in
+        let w = rw g.level.rows.columns at v.search in
+        gone_more f.columns (spot e) (came e) n f.tile.now f1.tile.now f2.tile.now r r1 r2 a v.rooms (w a.looks);
+  }
+
+  pub going_all : (e : X) (n : ℕ) (f f' : Flows) (r r' : Queue X) → 4 ≤ n → Going e n f f' r r' → GoesOn spot came e f f' r r'
+  going_all e n f f' r r' l g = record { level = g.level; rooms = g.rooms; inside = g.inside; search = λ k. gone_all f.columns (spot e) (came e) n f.tile.now f'.tile.now r r' l (g.search k) }
+
+  -- a search between two entries
+  pub record Turning (f f' : Flows) (r : Queue X) : Type 0 where
+    pub level : Leveled f f'
+    pub search : Searching f'.columns f'.tile.now (spots spot r) (length f'.tile.now)
+    pub rooms : length f'.tile.now ≤ capacity r
+    pub backs : All (Backed spot came f'.columns f'.tile.now) (waits r)
+
+  pub turning_done : (f f1 : Flows) (r r1 : Queue X) → Turning f f1 r → Dequeued r r1 None → Ranked f1.columns f1.tile.now
+  turning_done f f1 r r1 k d = subst (λ (x : List ℕ). Searching f1.columns f1.tile.now x (length f1.tile.now)) (ap (map spot) d.first) k.search
+
+  -- the next entry is fetched
+  pub turning_looks : (f f1 : Flows) (r r1 : Queue X) (s : X) → Turning f f1 r → Dequeued r r1 (Some s) → Looks spot came f1.columns (spot s) (came s) f1.tile.now r1
+  turning_looks f f1 r r1 s k d = seek_looks f1.columns f1.tile.now r r1 s k.search k.rooms k.backs d.first d.room
+
+  pub turning_on : (f f1 f2 : Flows) (r r1 r2 : Queue X) (s : X) → Turning f f1 r → Dequeued r r1 (Some s) → GoesOn spot came s f1 f2 r1 r2 → Turning f f2 r2
+  turning_on f f1 f2 r r1 r2 s k d g =
+      let looks = turning_looks f f1 r r1 s k d in
+      let v = g.search looks in
+      let long = g.level.holds.long in
+      record { level = leveled_trans f f1 f2 k.level g.level; search = rw g.level.rows.columns v.keeps; rooms = omega (arith, long, g.rooms, looks.rooms); backs = rw g.level.rows.columns v.backs }
+
+  pub turning_less : (f f1 f2 : Flows) (r r1 r2 : Queue X) (s : X) → Turning f f1 r → Dequeued r r1 (Some s) → GoesOn spot came s f1 f2 r1 r2 → load f2.tile.now (spots spot r2) < load f1.tile.now (spots spot r)
+  turning_less f f1 f2 r r1 r2 s k d g = load_pop f1.columns f1.tile.now f2.tile.now r r1 r2 s d.first (g.search (turning_looks f f1 r r1 s k d))
+
+  -- one more deficit cell
+  begin_root : (c : ℕ) (t t' : Tile) (r r' : Queue X) (s : X) (i n : ℕ) (b : Result ⊤ X) → Searching c t (spots spot r) i → length t ≤ capacity r → i < length t → n ≡ length t → rank_of t i ≡ 0 → InDeficit t c i → t' ≡ ranked_at t i n → Enqueued r r' s b → spot s ≡ i → Searching c t' (spots spot r') (i + 1) × (waits r' ≡ waits r ++ s ∷ [])
+  begin_root c t t' r r' s i n b k f l ne z sh te p se =
+      let na = not_all t i l z in
+      let t1 : Tile = ranked_at t i n in
+      let len = length-map (waits r) spot in
+      let q = last_with_room r r' s b p (omega (arith, k.few)) in
+      let qs : spots spot r' ≡ spots spot r ++ i ∷ [] = ap (map spot) q ∙ map_push spot (waits r) s ∙ ap (λ (x : ℕ). spots spot r ++ x ∷ []) se in
+      let sh' : InDeficit t1 c i = subst (λ (x : ℤ). x <ℤ pos 0) (sym (remains_level t t1 (level_ranked t i n) c i)) sh in
+      let a : Searching c t1 (spots spot r ++ i ∷ []) i = search_add c t (spots spot r) i i n k l z (omega arith) (omega arith) (omega arith) (inl sh') in
+      let w = seen_more c t1 (spots spot r ++ i ∷ []) i a (λ _. omega (arith, rank_here t i n l)) in
+      (subst (λ (x : Tile). Searching c x (spots spot r') (i + 1)) (sym te) (subst (λ (x : List ℕ). Searching c t1 x (i + 1)) (sym qs) w), q)
+
+  none_some : (o : Option Direction) (h : Direction) → o ≡ None → o ≡ Some h → ⊥
+  none_some o h a b = let z : ◌≡◌ {A = ℕ} 0 1 = cc in omega arith
+
+  -- the cells below u have been looked at for a deficit
+  pub record Beginning (u : ℕ) (f f' : Flows) (r r' : Queue X) : Type 0 where
+    pub level : Leveled f f'
+    pub search : Searching f'.columns f'.tile.now (spots spot r') u
+    pub none : (b : ℕ) → u ≤ b → rank_of f'.tile.now b ≡ 0
+    pub rooms : capacity r' ≡ capacity r
+    pub back : All (λ s. came s ≡ None) (waits r')
+    pub roots : (b : ℕ) → 0 < rank_of f'.tile.now b → InDeficit f'.tile.now f'.columns b
+
+  pub beginning_not : (u : ℕ) (f f' : Flows) (r r' : Queue X) → Beginning u f f' r r' → (InDeficit f'.tile.now f'.columns u → ⊥) → Beginning (u + 1) f f' r r'
+  beginning_not u f f' r r' k n = record {
+    level = k.level;
+    search = begin_not f'.columns f'.tile.now (spots spot r') u k.search n;
+    none = λ b l. k.none b (omega arith);
+    rooms = k.rooms;
+    back = k.back;
+    roots = k.roots;
+  }
+
+  pub beginning_root : (u n : ℕ) (f f1 f2 : Flows) (r r1 r2 : Queue X) (s : X) (b : Result ⊤ X) → Beginning u f f1 r r1 → length f.tile.now ≤ capacity r → u < length f.tile.now → n ≡ length f.tile.now → InDeficit f1.tile.now f1.columns u → SameRows f1 f2 → f2.tile.now ≡ ranked_at f1.tile.now u n → Enqueued r1 r2 s b → spot s ≡ u → came s ≡ None → Beginning (u + 1) f f2 r r2
+  beginning_root u n f f1 f2 r r1 r2 s b k room l ne sh rows te p se nb =
+      let long = k.level.holds.long in
+      let z = k.none u (omega arith) in
+      let lv : SameFlows f1.tile.now f2.tile.now = subst (SameFlows f1.tile.now) (sym te) (level_ranked f1.tile.now u n) in
+      let k' = begin_root f1.columns f1.tile.now f2.tile.now r1 r2 s u n b k.search (omega (arith, k.rooms)) (omega arith) (omega arith) z sh te p se in
+      let same : (x : ℕ) → InDeficit f1.tile.now f1.columns x → InDeficit f2.tile.now f2.columns x = λ x d. rw rows.columns (subst (λ (y : ℤ). y <ℤ pos 0) (sym (remains_level f1.tile.now f2.tile.now lv f1.columns x)) d) in
+      record {
+        level = leveled_trans f f1 f2 k.level (record { rows = rows; holds = lv });
+        search = rw rows.columns k'.0;
+        none = λ x lx. subst (λ (y : Tile). rank_of y x ≡ 0) (sym te) (rank_other f1.tile.now u n x (λ e. omega arith) ∙ k.none x (omega arith));
+        rooms = p.room ∙ k.rooms;
+        back = subst (All (λ y. came y ≡ None)) (sym k'.1) (All-push (λ y. came y ≡ None) (waits r1) s k.back nb);
+        roots = λ x px.
+            ⊎_elim
+            (λ (e : x ≡ u). same x (subst (λ (y : ℕ). InDeficit f1.tile.now f1.columns y) (sym e) sh))
+            (λ (e : x ≡ u → ⊥). same x (k.roots x (subst (λ (y : ℕ). 0 < y) (ap (λ (y : Tile). rank_of y x) te ∙ rank_other f1.tile.now u n x e) px)))
+            (cases_eq x u);
+      }
+
+  pub beginning_done : (u : ℕ) (f f' : Flows) (r r' : Queue X) → Beginning u f f' r r' → length f.tile.now ≤ capacity r → u ≡ length f.tile.now → Started spot came f'.columns f'.tile.now r'
+  beginning_done u f f' r r' k room ue =
+      let long = k.level.holds.long in
+      let e : u ≡ length f'.tile.now = omega arith in
+      record {
+        search = subst (λ (x : ℕ). Searching f'.columns f'.tile.now (spots spot r') x) e k.search;
+        rooms = omega (arith, k.rooms);
+        backs = All-weaker (λ y. came y ≡ None) (Backed spot came f'.columns f'.tile.now) (λ y q h w. absurd (none_some (came y) h q w)) (waits r') k.back;
+        roots = λ x p sp. let sh = k.roots x p in omega (arith, ints, sh, sp);
+      }
+
+  unmapped : (P : ℕ → Type 0) (xs : List X) → All P (map spot xs) → All (λ e. P (spot e)) xs
+  unmapped P [] a = tt
+  unmapped P (x ∷ xs) a = (a.0, unmapped P xs a.1)
+
+  calm_after : (c : ℕ) (t t' : Tile) (r r1 r2 : Queue X) (s : X) → ((x : ℕ) → 0 < rank_of t x → Among x (spots spot r) ⊎ (InSurplus t c x → ⊥)) → waits r ≡ s ∷ waits r1 → (InSurplus t c (spot s) → ⊥) → Visits spot came c (spot s) t t' r1 r2 → (x : ℕ) → 0 < rank_of t' x → Among x (spots spot r2) ⊎ (InSurplus t' c x → ⊥)
   calm_after c t t' r r1 r2 s k q n v x p =
       let same : remains t' c x ≡ remains t c x = remains_level t t' v.grows.level c x in
       let move : (InSurplus t c x → ⊥) → InSurplus t' c x → ⊥ = λ f sp. f (subst (λ (z : ℤ). pos 0 <ℤ z) same sp) in
@@ -153,26 +287,35 @@ module _ {X : Type 0} (spot : X → ℕ) (came : X → Option Direction) where
       (λ (w : Among x (spots spot r2)). inl w)
       (v.news x p)
 
-  pub load_pop : (c : ℕ) (t t' : Tile) (r r1 r2 : Queue X) (s : X) → waits r ≡ s ∷ waits r1 → Visits spot came c (spot s) t t' r1 r2 → load t' (spots spot r2) < load t (spots spot r)
-  load_pop c t t' r r1 r2 s q v = omega (arith, v.load_same, ap length (ap (map spot) q))
+  -- a search for a surplus cell: those that do not wait any more are in no surplus
+  pub record Seeking (f f' : Flows) (r : Queue X) : Type 0 where
+    pub turning : Turning f f' r
+    pub calm : (x : ℕ) → 0 < rank_of f'.tile.now x → Among x (spots spot r) ⊎ (InSurplus f'.tile.now f'.columns x → ⊥)
 
-  pub none_some : (o : Option Direction) (h : Direction) → o ≡ None → o ≡ Some h → ⊥
-  none_some o h a b = let z : ◌≡◌ {A = ℕ} 0 1 = cc in omega arith
+  -- the cell that is fetched, and those that still wait
+  pub seeking_place : (f f1 : Flows) (r r1 : Queue X) (s : X) → Seeking f f1 r → Dequeued r r1 (Some s) → spot s < length f1.tile.now
+  seeking_place f f1 r r1 s k d = (turning_looks f f1 r r1 s k.turning d).search.inside.0.0
 
-  -- an entry more, where there is room for it, keeps all inside
-  pub inside_more : (n : ℕ) (q q' : Queue X) (e : X) (b : Result ⊤ X) → Enqueued q q' e b → spot e < n → All (λ x. spot x < n) (waits q) → All (λ x. spot x < n) (waits q')
-  inside_more n q q' e (Ok _) p l a = subst (All (λ x. spot x < n)) (sym p.last) (All-push (λ x. spot x < n) (waits q) e a l)
-  inside_more n q q' e (Err _) p l a = subst (λ (k : Queue X). All (λ x. spot x < n) (waits k)) (sym p.unchanged.1) a
+  pub seeking_rest : (f f1 : Flows) (r r1 : Queue X) (s : X) → Seeking f f1 r → Dequeued r r1 (Some s) → AllInside spot f1.tile.now r1
+  seeking_rest f f1 r r1 s k d =
+      unmapped (λ x. x < length f1.tile.now) (waits r1) (All-weaker (λ x. (x < length f1.tile.now) × (0 < rank_of f1.tile.now x)) (λ x. x < length f1.tile.now) (λ x i. i.0) (spots spot r1) (turning_looks f f1 r r1 s k.turning d).search.inside.1)
 
-  -- the same, seen from the tile before
-  pub inside_on : (t t' : Tile) (q q' : Queue X) → SameFlows t t' → (AllInside spot t' q → AllInside spot t' q') → AllInside spot t q → AllInside spot t q'
-  inside_on t t' q q' l f a =
-      subst (λ (n : ℕ). All (λ x. spot x < n) (waits q')) l.long (f (subst (λ (n : ℕ). All (λ x. spot x < n) (waits q)) (sym l.long) a))
+  pub seeking_above : (f f1 : Flows) (r r1 : Queue X) (s : X) → Seeking f f1 r → Dequeued r r1 (Some s) → Above f1.columns f1.tile.now (rank_of f1.tile.now (spot s))
+  seeking_above f f1 r r1 s k d =
+      let p = (turning_looks f f1 r r1 s k.turning d).search.inside.0.1 in
+      λ u l h. k.turning.search.tree u l (omega arith)
 
-  pub unmapped : (P : ℕ → Type 0) (xs : List X) → All P (map spot xs) → All (λ e. P (spot e)) xs
-  unmapped P [] a = tt
-  unmapped P (x ∷ xs) a = (a.0, unmapped P xs a.1)
+  pub seeking_on : (f f1 f2 : Flows) (r r1 r2 : Queue X) (s : X) → Seeking f f1 r → Dequeued r r1 (Some s) → (InSurplus f1.tile.now f1.columns (spot s) → ⊥) → GoesOn spot came s f1 f2 r1 r2 → Seeking f f2 r2
+  seeking_on f f1 f2 r r1 r2 s k d n g =
+      let v = g.search (turning_looks f f1 r r1 s k.turning d) in
+      record {
+        turning = turning_on f f1 f2 r r1 r2 s k.turning d g;
+        calm = rw g.level.rows.columns (calm_after f1.columns f1.tile.now f2.tile.now r r1 r2 s k.calm d.first n v);
+      }
 
-  -- what waits in a search is inside
-  pub all_inside : (c : ℕ) (t : Tile) (q : Queue X) (seen : ℕ) → Searching c t (spots spot q) seen → AllInside spot t q
-  all_inside c t q seen k = unmapped (λ x. x < length t) (waits q) (All-weaker (λ x. (x < length t) × (0 < rank_of t x)) (λ x. x < length t) (λ x i. i.0) (spots spot q) k.inside)
+  pub seeking_done : (f f1 : Flows) (r r1 : Queue X) → Seeking f f1 r → Dequeued r r1 None → Ranked f1.columns f1.tile.now × NoneInSurplus f1.columns f1.tile.now
+  seeking_done f f1 r r1 k d =
+      let none : spots spot r ≡ [] = ap (map spot) d.first in (
+        turning_done f f1 r r1 k.turning d,
+        λ u l p. ⊎_elim (λ (a : Among u (spots spot r)). absurd (subst (λ (x : List ℕ). Among u x) none a)) (λ (n : InSurplus f1.tile.now f1.columns u → ⊥). n) (k.calm u p),
+      )

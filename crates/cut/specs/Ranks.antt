@@ -16,12 +16,6 @@ with_rank r c = record { reading = c.reading; class = c.class; right = c.right; 
 abbrev pub ranked_at : Tile → ℕ → ℕ → Tile
 ranked_at t v r = slice_set t v (with_rank r (cell t v))
 
-abbrev pub with_mark : ℕ → Cell → Cell
-with_mark m c = record { reading = c.reading; class = c.class; right = c.right; down = c.down; right_flow = c.right_flow; down_flow = c.down_flow; low = c.low; high = c.high; charge = c.charge; mark = m; rank = c.rank }
-
-abbrev pub marked_at : Tile → ℕ → ℕ → Tile
-marked_at t u m = slice_set t u (with_mark m (cell t u))
-
 abbrev pub has_rank : Cell → Bool
 has_rank c = nat_lt 0 c.rank
 

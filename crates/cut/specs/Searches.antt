@@ -1,13 +1,15 @@
 -- The breadth-first search from the deficit cells, which ranks the cells it reaches: deficit cells highest, and one less over
 -- each residual arc. What waits is a list of entries, each with a cell and perhaps the direction back to where it was reached from.
-use Rattle.std.specs.Prelude.{◌≡◌, ℕ, ◌+◌, ◌-◌, ◌<◌, ◌≤◌, ◌⊎◌, List, [], ◌∷◌, map, length, pos, ◌<ℤ◌, Some, Option}
+use Rattle.std.specs.Prelude.{◌≡◌, ℕ, ◌+◌, ◌-◌, ◌<◌, ◌≤◌, ◌⊎◌, List, [], ◌∷◌, map, length, pos, ◌<ℤ◌, Some, Option, MatchOption}
 use Rattle.std.specs.List.{AllByRecursion}
 use Rattle.queue.specs.declared.Queue.{Queue}
 use Rattle.queue.specs.Queue.{waits, capacity}
 use Rattle.tile.specs.Tiles.{Tile}
 use Rattle.flow.specs.declared.direction.Direction.{Direction}
+use Rattle.flow.specs.declared.flows.Flows.{Flows}
 use Rattle.flow.specs.Sides.{beside, room, InDeficit, InSurplus, SameFlows}
 use Rattle.cut.specs.Ranks.{rank_of, ranked}
+use Rattle.cut.specs.Lent.{Leveled}
 
 abbrev pub Among : ℕ → List ℕ → Type 0
 Among u [] = ⊥
@@ -42,6 +44,17 @@ pub record Searching (c : ℕ) (t : Tile) (q : List ℕ) (seen : ℕ) : Type 0 w
 -- ranks that a whole search has given
 abbrev pub Ranked : ℕ → Tile → Type 0
 Ranked c t = Searching c t [] (length t)
+
+-- a cell without a rank, which a residual arc out of u leads to in this direction
+pub record Fresh (c : ℕ) (t : Tile) (u : ℕ) (h : Direction) (v : ℕ) : Type 0 where
+  pub at : v ≡ beside c h u
+  pub inside : v < length t
+  pub open' : pos 0 <ℤ room t c h u
+  pub none : rank_of t v ≡ 0
+
+-- here is one; or the cell that a residual arc leads to has a rank
+abbrev pub FoundFresh : ℕ → Tile → ℕ → Direction → Option ℕ → Type 0
+FoundFresh c t u h r = MatchOption r (pos 0 <ℤ room t c h u → 0 < rank_of t (beside c h u)) (Fresh c t u h)
 
 -- what is left to do: the measure of a search
 abbrev pub load : Tile → List ℕ → ℕ
@@ -92,6 +105,20 @@ pub record Visits {X : Type 0} (spot : X → ℕ) (came : X → Option Direction
   pub backs : AllByRecursion (Backed spot came c t') (waits q')
   pub olds : (x : ℕ) → Among x (spots spot q) → Among x (spots spot q')
   pub news : (x : ℕ) → 0 < rank_of t' x → (0 < rank_of t x) ⊎ Among x (spots spot q')
+
+-- the search goes over one direction out of the cell of an entry, over the same borrowed records
+pub record Goes {X : Type 0} (spot : X → ℕ) (came : X → Option Direction) (e : X) (h : Direction) (f f' : Flows) (q q' : Queue X) : Type 0 where
+  pub level : Leveled f f'
+  pub rooms : capacity q' ≡ capacity q
+  pub inside : AllInside spot f.tile.now q → AllInside spot f.tile.now q'
+  pub search : Looks spot came f.columns (spot e) (came e) f.tile.now q → Visited spot came f.columns (spot e) h f.tile.now f'.tile.now q q'
+
+-- and over all directions
+pub record GoesOn {X : Type 0} (spot : X → ℕ) (came : X → Option Direction) (e : X) (f f' : Flows) (q q' : Queue X) : Type 0 where
+  pub level : Leveled f f'
+  pub rooms : capacity q' ≡ capacity q
+  pub inside : AllInside spot f.tile.now q → AllInside spot f.tile.now q'
+  pub search : Looks spot came f.columns (spot e) (came e) f.tile.now q → Visits spot came f.columns (spot e) f.tile.now f'.tile.now q q'
 
 -- the deficit cells wait, and no other cell has a rank
 pub record Started {X : Type 0} (spot : X → ℕ) (came : X → Option Direction) (c : ℕ) (t : Tile) (q : Queue X) : Type 0 where

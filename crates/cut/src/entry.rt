@@ -52,7 +52,7 @@ impl Entry for u16 {
 }
 
 // A cell, and the side that it was reached by, unless the search began there.
-#[derive(Clone, Copy)]
+#[derive(Clone, Copy, Default)]
 pub struct Step {
     pub cell: u16,
     pub side: Option<Direction>,

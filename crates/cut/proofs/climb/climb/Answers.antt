@@ -1,47 +1,37 @@
-use Rattle.std.proofs.Common.{sym, ◌∙◌, subst, arith}
-use Rattle.flow.specs.declared.direction.Direction.{Direction}
-use Rattle.flow.specs.Sides.{InDeficit, Sent, opposite}
+use Rattle.std.proofs.Common.{sym, ◌∙◌, arith}
+use Rattle.flow.specs.Sides.{InDeficit}
 use Rattle.flow.proofs.Tests.{less_true, less_false}
-use Rattle.flow.proofs.Pushes.{eased_trans}
-use Rattle.cut.proofs.Climbs.{never_none, climb_last, climb_surplus, climb_rank, climb_above, relieved_after}
+use Rattle.cut.proofs.Climbs.{never_none, climb_last, climb_surplus, climb_rank, climb_above}
+use Rattle.cut.proofs.Lent.{eased_then, eased_relieved}
 use Rattle.cut.proofs.climb.climb.Goals as goal
 
-pub returns-in_default : goal.returns-in_default
-returns-in_default c =
-    let inv = c.loop-h.invariant in
-    record { eased = inv.0; fewer = λ a. absurd (never_none c.args.columns c.loop-h.tile c.loop-h.v inv.1 inv.2 (inv.3 a) c.in_default.ensures) }
-
-pub from-u-requires : goal.from-u-requires
-from-u-requires c =
-    let inv = c.loop-h.invariant in
-    record { place = inv.1; sound = inv.0.sound; leads = c.in-Some.ensures.0.reach }
+pub returns-clause-fewer : goal.returns-clause-fewer
+returns-clause-fewer c a =
+    let inv = c.loop-u.invariant in
+    absurd (never_none _ _ _ inv.place inv.surplus (inv.above a) c.in_default.ensures)
 
 pub returns-then-deficit : goal.returns-then-deficit
 returns-then-deficit c =
-    let inv = c.loop-h.invariant in
-    let st : Sent c.args.columns (opposite c.in-Some.h) c.from-u.result c.loop-h.tile c.send.new.tile c.send.result
-    = subst (λ (x : Direction). Sent c.args.columns x c.from-u.result c.loop-h.tile c.send.new.tile c.send.result) c.opposite.ensures c.send.ensures in
-    let sh : InDeficit c.loop-h.tile c.args.columns c.from-u.result = less_true _ _ (sym c.in_deficit-deficit.ensures ∙ c.if-deficit.true) in
-    let r = relieved_after _ _ _ _ inv.0 (climb_last c.args.columns c.loop-h.tile c.send.new.tile c.loop-h.v c.from-u.result c.in-Some.h c.send.result inv.0.sound inv.1 inv.2 c.in-Some.ensures.0 c.from-u.ensures.value st sh) in
-    record { eased = r.eased; fewer = λ _. r }
+    let inv = c.loop-u.invariant in
+    let sh : InDeficit c.loop-u.flows.tile.now c.loop-u.flows.columns c.in-Some.u = less_true _ _ (sym c.in_deficit-deficit.ensures ∙ c.if-deficit.true) in
+    let r = climb_last _ _ _ _ _ _ _ _ inv.surplus c.in-Some.ensures c.opposite.ensures c.send.ensures.sent sh in
+    let rel = eased_relieved _ _ _ inv.eased (record { rows = c.send.ensures.rows; holds = r }) in
+    record { eased = record { rows = rel.rows; holds = rel.holds.eased }; fewer = λ _. rel }
 
-pub loop-h-smaller : goal.loop-h-smaller
-loop-h-smaller c =
-    let inv = c.loop-h.invariant in
-    let st : Sent c.args.columns (opposite c.in-Some.h) c.from-u.result c.loop-h.tile c.send.new.tile c.send.result
-    = subst (λ (x : Direction). Sent c.args.columns x c.from-u.result c.loop-h.tile c.send.new.tile c.send.result) c.opposite.ensures c.send.ensures in
-    let r = climb_rank c.args.columns c.loop-h.tile c.send.new.tile c.loop-h.v c.from-u.result c.in-Some.h c.send.result inv.0.sound inv.1 inv.2 c.in-Some.ensures.0 c.from-u.ensures.value st in
-    omega (arith, r, c.in-Some.ensures.1)
+pub loop-u-smaller : goal.loop-u-smaller
+loop-u-smaller c =
+    let inv = c.loop-u.invariant in
+    let r = climb_rank _ _ _ _ _ _ _ _ inv.surplus c.in-Some.ensures c.opposite.ensures c.send.ensures.sent in
+    omega (arith, r, c.in-Some.ensures.few)
 
-pub loop-h-preserved : goal.loop-h-preserved
-loop-h-preserved c =
-    let inv = c.loop-h.invariant in
-    let st : Sent c.args.columns (opposite c.in-Some.h) c.from-u.result c.loop-h.tile c.send.new.tile c.send.result
-    = subst (λ (x : Direction). Sent c.args.columns x c.from-u.result c.loop-h.tile c.send.new.tile c.send.result) c.opposite.ensures c.send.ensures in
-    let n : InDeficit c.loop-h.tile c.args.columns c.from-u.result → ⊥ = less_false _ _ (sym c.in_deficit-deficit.ensures ∙ c.if-deficit.false) in
-    let long = st.eased.still.long in (
-      eased_trans _ _ _ _ inv.0 st.eased,
-      omega (arith, c.from-u.ensures.place),
-      climb_surplus c.args.columns c.loop-h.tile c.send.new.tile c.loop-h.v c.from-u.result c.in-Some.h c.send.result inv.0.sound inv.1 inv.2 c.in-Some.ensures.0 c.from-u.ensures.value st n,
-      λ a. climb_above c.args.columns c.loop-h.tile c.send.new.tile c.loop-h.v c.from-u.result c.in-Some.h c.send.result inv.0.sound inv.1 inv.2 c.in-Some.ensures.0 c.from-u.ensures.value st n (inv.3 a),
-    )
+pub loop-u-preserved : goal.loop-u-preserved
+loop-u-preserved c =
+    let inv = c.loop-u.invariant in
+    let sent = c.send.ensures.sent in
+    let n : InDeficit c.loop-u.flows.tile.now c.loop-u.flows.columns c.in-Some.u → ⊥ = less_false _ _ (sym c.in_deficit-deficit.ensures ∙ c.if-deficit.false) in
+    record {
+      eased = eased_then _ _ _ inv.eased (record { rows = c.send.ensures.rows; holds = sent.eased });
+      place = omega (arith, sent.eased.still.long, c.in-Some.ensures.at, c.in-Some.ensures.higher.inside);
+      surplus = rw c.send.ensures.rows.columns (climb_surplus _ _ _ _ _ _ _ _ inv.surplus c.in-Some.ensures c.opposite.ensures sent n);
+      above = λ a. rw c.send.ensures.rows.columns (climb_above _ _ _ _ _ _ _ _ inv.surplus c.in-Some.ensures c.opposite.ensures sent n (inv.above a));
+    }

@@ -3,5 +3,5 @@ use Rattle.flow.specs.Sides.{SameFlows}
 use Rattle.cut.specs.Ranks.{rank_of}
 use Rattle.cut.proofs.ranks.clear_ranks.Given as goal
 
-abbrev pub invariant-loop-u : goal.invariant-loop-u
-invariant-loop-u l = SameFlows l.initial.tile l.tile × ((b : ℕ) → b < l.u → rank_of l.tile b ≡ 0)
+abbrev pub invariant-loop-cell : goal.invariant-loop-cell
+invariant-loop-cell l = record { level : SameFlows l.initial.tile l.tile; none : (b : ℕ) → b < l.cell-index → rank_of l.tile b ≡ 0 }

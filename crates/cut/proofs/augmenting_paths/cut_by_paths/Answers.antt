@@ -1,5 +1,0 @@
-use Rattle.cut.proofs.Reaches.{cut_done}
-use Rattle.cut.proofs.augmenting_paths.cut_by_paths.Goals as goal
-
-pub returns : goal.returns
-returns c = cut_done _ _ _ _ c.settle.ensures c.mark_all.ensures

@@ -22,11 +22,6 @@ pub const JUNK: Cell = Cell {
     rank: 9,
 };
 
-pub const NOWHERE: Step = Step {
-    cell: 0,
-    side: None,
-};
-
 // A reading of class 1, tied to the right.
 pub fn tied(reading: u16, right: u16) -> Sample {
     Sample {
@@ -85,7 +80,7 @@ pub fn check_tile<P: PriceRule>(
         &mut tile,
         rule,
         &AugmentingPaths,
-        &mut [NOWHERE; 4],
+        &mut [Step::default(); 4],
     )?;
     check_level(rt, &level, &tile, rule, columns, heights, energy)?;
     let draft = accepted(level.reopen(&mut tile))?;

@@ -1,5 +1,5 @@
-use crate::running::{JUNK, NOWHERE, accepted, check_tile, number_of, tied};
-use cut::{AugmentingPaths, PushRelabel};
+use crate::running::{JUNK, accepted, check_tile, number_of, tied};
+use cut::{AugmentingPaths, PushRelabel, Step};
 use filter::{Draft, Rounding, start};
 use price::{Absolute, Leaning, Squared};
 use solve::{Sample, finish_one_cell, solve};
@@ -189,7 +189,7 @@ fn refusals_of_rounds(rt: HostRuntime) -> Result<(), Fail> {
     );
     let rounding = first_rounds(&mut tile)?;
     assert_eq!(rt;
-        number_of(rounding.round(&mut tile, &low, &AugmentingPaths, &mut [NOWHERE; 2])),
+        number_of(rounding.round(&mut tile, &low, &AugmentingPaths, &mut [Step::default(); 2])),
         Some(8)
     );
     assert_eq!(rt; number_of(first_rounds(&mut tile)?.finish(&tile)), Some(10));
@@ -274,7 +274,12 @@ fn one_cell_finished(rt: HostRuntime) -> Result<(), Fail> {
     let rule = Leaning::new(1)?;
     let level = finish_one_cell(&mut tile, &rule, &PushRelabel, &mut [0; 1])?;
     assert_eq!(rt; level.height(&tile, 0, 0)?, 0);
-    let level = finish_one_cell(&mut tile, &rule, &AugmentingPaths, &mut [NOWHERE; 1])?;
+    let level = finish_one_cell(
+        &mut tile,
+        &rule,
+        &AugmentingPaths,
+        &mut [Step::default(); 1],
+    )?;
     assert_eq!(rt; level.height(&tile, 0, 0)?, 0);
     Ok(())
 }

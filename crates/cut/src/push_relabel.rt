@@ -54,7 +54,7 @@ fn rank_beside(flows: &Flows, v: usize, toward: Direction) -> u16
     }
 }
 
-// One less than the highest rank from which a residual arc leads to v; 0 where none does.
+// One less than the highest rank from which a residual arc leads to v; 0 where none does, which in a record is no rank.
 fn lower(flows: &mut Flows, v: usize)
     requires { v < length flows.old.tile.now }
     ensures rows { SameRows flows.old flows.new }
@@ -82,7 +82,7 @@ fn relieve(flows: &mut Flows, queue: &mut Queue<u16>, v: usize) -> bool
     true
 }
 
-// Has the surplus cells that have a rank wait.
+// Has the surplus cells that have a rank wait. It goes by number, since a cell's number is what waits.
 fn collect(flows: &Flows, queue: &mut Queue<u16>)
     requires { AllInside (λ x. x) flows.now.tile.now queue.old }
     ensures { AllInside (λ x. x) flows.now.tile.now queue.new }

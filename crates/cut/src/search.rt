@@ -46,7 +46,7 @@ pub(crate) fn visit_all<E: Entry>(flows: &mut Flows, queue: &mut Queue<E>, entry
     }
 }
 
-// Ranks the deficit cells, and has them wait.
+// Ranks the deficit cells, and has them wait. It goes by number, since a cell's number is what waits.
 fn begin<E: Entry>(flows: &mut Flows, queue: &mut Queue<E>)
     requires none { (b : ℕ) → rank_of flows.old.tile.now b ≡ 0 }
     requires idle { waits queue.old ≡ [] }

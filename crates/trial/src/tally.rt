@@ -80,7 +80,7 @@ impl Tally {
         }
     }
 
-    // Adds a tile that was cut.
+    // Adds a tile that was cut. It goes by number, by which a cell's ties are found.
     pub(crate) fn add(&mut self, shape: Shape, tile: &[Cell]) {
         let Some(chart) = Chart::of(shape, tile) else {
             return;

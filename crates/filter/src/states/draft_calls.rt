@@ -28,12 +28,14 @@ pub fn start(rows: usize, columns: usize, top: u16, tile: &mut [Cell]) -> Result
 }
 
 // The rounds of a draft that is closed: none is done.
-fn no_round_done(shape: Shape) -> Rounding
-    requires { shape.rows ≤ most_rows }
-    ensures shape { result.shape ≡ shape }
+fn no_round_done(draft: Draft) -> Rounding
+    ensures shape { result.shape ≡ draft.shape }
     ensures done { result.done ≡ 0 }
 {
-    Rounding { shape, done: 0 }
+    Rounding {
+        shape: draft.shape,
+        done: 0,
+    }
 }
 
 impl Draft {
@@ -111,6 +113,6 @@ impl Draft {
         if let Err(why) = check_tile(self.shape, 0, tile) {
             return Err(Refused { state: self, why });
         }
-        Ok(no_round_done(self.shape))
+        Ok(no_round_done(self))
     }
 }

@@ -60,6 +60,6 @@ impl Level {
         ensures goes_on { GoesOn (level self) tile.old level draft reopened result tile.new }
         ensures law { EveryRunKeepsTheLaw }
     {
-        reopen(self.shape, self.done, tile, self)
+        reopen(Draft { shape: self.shape }, self.done, tile, self)
     }
 }

@@ -38,16 +38,18 @@ fn halve<P: PriceRule, M: CutMaker>(
 }
 
 // What an accepted round answers: one round more is done.
-fn one_more(shape: Shape, done: u8) -> Rounded
-    requires tall { shape.rows ≤ most_rows }
-    requires few { done < most_rounds }
-    ensures shape { result.state.shape ≡ shape }
-    ensures state { result.state.done ≡ done + 1 }
-    ensures done { result.done ≡ done + 1 }
+fn one_more(rounding: Rounding) -> Rounded
+    requires { rounding.done < most_rounds }
+    ensures shape { result.state.shape ≡ rounding.shape }
+    ensures state { result.state.done ≡ rounding.done + 1 }
+    ensures done { result.done ≡ rounding.done + 1 }
 {
-    let done = done + 1;
+    let done = rounding.done + 1;
     Rounded {
-        state: Rounding { shape, done },
+        state: Rounding {
+            shape: rounding.shape,
+            done,
+        },
         done,
     }
 }
@@ -73,7 +75,7 @@ impl Rounding {
             return Err(Refused { state: self, why });
         }
         halve(rule, maker, self.shape, tile, entries);
-        Ok(one_more(self.shape, self.done))
+        Ok(one_more(self))
     }
 
     // Ends the rounds, once those due are done. Writes nothing.
@@ -97,33 +99,30 @@ impl Rounding {
         ensures goes_on { GoesOn (rounding self) tile.old rounding draft reopened result tile.new }
         ensures law { EveryRunKeepsTheLaw }
     {
-        reopen(self.shape, self.done, tile, self)
+        reopen(Draft { shape: self.shape }, self.done, tile, self)
     }
 }
 
-// Resets the records, and answers their draft.
-fn reset_draft(shape: Shape, tile: &mut [Cell]) -> Draft
-    requires tall { shape.rows ≤ most_rows }
-    requires whole { cells shape ≤ length tile.old }
-    ensures shape { result.shape ≡ shape }
-    ensures writes { tile.new ≡ rewritten (cells shape) (λ u. reset shape.top (cell tile.old u)) tile.old }
+// Resets the records of a draft.
+fn reset_draft(draft: &Draft, tile: &mut [Cell])
+    requires { cells draft.now.shape ≤ length tile.old }
+    ensures { tile.new ≡ rewritten (cells draft.now.shape) (λ u. reset draft.now.shape.top (cell tile.old u)) tile.old }
 {
-    reset(shape, tile);
-    Draft { shape }
+    reset(draft.shape, tile);
 }
 
-// Goes back to a draft from a state of this shape with so many rounds done.
+// Goes back to this draft from a state of its shape with so many rounds done.
 pub(crate) fn reopen<S: Drop>(
-    shape: Shape,
+    draft: Draft,
     done: u8,
     tile: &mut [Cell],
     state: S,
 ) -> Result<Draft, Refused<S>>
-    requires { shape.rows ≤ most_rows }
-    ensures { ReopenDoes state shape done tile.old result tile.new }
+    ensures { ReopenDoes state draft.shape done tile.old result tile.new }
 {
-    if let Err(why) = check_tile(shape, done, tile) {
+    if let Err(why) = check_tile(draft.shape, done, tile) {
         return Err(Refused { state, why });
     }
-    Ok(reset_draft(shape, tile))
+    reset_draft(&draft, tile);
+    Ok(draft)
 }

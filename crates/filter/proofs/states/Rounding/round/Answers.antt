@@ -12,7 +12,7 @@ pub halve-requires : goal.halve-requires
 halve-requires g c = ready c.args.self.shape c.args.self.done c.args.tile.now (length c.args.entries.now) (g.P.PriceRule.rule c.args.rule.now).greatest (at_greatest (Ok tt) c.args.self.shape c.args.self.done c.args.tile.now (length c.args.entries.now) c.greatest.result _ c.greatest.ensures c.in_default.ensures)
 
 pub one_more-requires : goal.one_more-requires
-one_more-requires g c = record { tall = c.args.self.tall; few = few_left c.args.self.shape c.args.self.done c.args.tile.now (length c.args.entries.now) (g.P.PriceRule.rule c.args.rule.now).greatest (at_greatest (Ok tt) c.args.self.shape c.args.self.done c.args.tile.now (length c.args.entries.now) c.greatest.result _ c.greatest.ensures c.in_default.ensures) }
+one_more-requires g c = few_left c.args.self.shape c.args.self.done c.args.tile.now (length c.args.entries.now) (g.P.PriceRule.rule c.args.rule.now).greatest (at_greatest (Ok tt) c.args.self.shape c.args.self.done c.args.tile.now (length c.args.entries.now) c.greatest.result _ c.greatest.ensures c.in_default.ensures)
 
 pub returns : goal.returns
 returns g c =

@@ -22,5 +22,6 @@ pub record CellFits (s : Shape) (t : Tile) (u : ℕ) : Type 0 where
   pub right : SideFits s t u Rightward
   pub down : SideFits s t u Downward
 
+-- every cell fits
 abbrev pub AllFit : Shape → Tile → Type 0
 AllFit s t = (u : ℕ) → u < cells s → CellFits s t u

@@ -9,8 +9,8 @@ use cut::{AugmentingPaths, PushRelabel, Step};
 use flow::run_cut;
 use tile::{Cell, Refusal, Shape};
 
-// Cuts two copies of a tile, one by each maker. Refuses, and cuts nothing, where a workspace is too short or a copy may not
-// be cut. On equal copies the two makers mark the same cells.
+// Cuts two copies of a tile, one by each maker. Refuses with `FewEntries` where a workspace is too short and with `Corrupt` where
+// a copy may not be cut, and then cuts nothing. On equal copies the two makers mark the same cells.
 pub fn cut_both(
     shape: Shape,
     first: &mut [Cell],

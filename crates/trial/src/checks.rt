@@ -11,11 +11,15 @@ use tile::{Cell, Shape, Side};
 pub(crate) struct Chart<'a> {
     pub shape: Shape,
     pub tile: &'a [Cell],
-    ghost whole: { cells shape ≤ length tile.now },
+    pub ghost whole: { cells shape ≤ length tile.now },
 }
 
 impl<'a> Chart<'a> {
-    ghost use Rattle.std.specs.Prelude.{◌<◌, IsSome, MatchOption};
+    ghost use Rattle.std.specs.Prelude.{◌<◌, Some, IsSome, MatchOption};
+    ghost use Rattle.std.specs.Prelude.{if◌then◌else◌};
+    ghost use Rattle.tile.specs.Records.{stored_tie};
+    ghost use Rattle.tile.specs.Ties.{neighbour_within};
+    ghost use Rattle.tile.specs.Tiles.{cell};
     ghost use Rattle.flow.specs.Networks.{is_live};
     ghost use Rattle.trial.specs.Checks.{SideFits, CellFits, AllFit};
 
@@ -33,12 +37,25 @@ impl<'a> Chart<'a> {
     pub(crate) fn live_neighbour(&self, at: usize, side: Side) -> Option<usize>
         requires { at < cells self.now.shape }
         ensures live { IsSome result ↔ IsTrue (is_live self.now.shape self.now.tile.now at side) }
+        ensures found { IfSome result (λ other. Some other ≡ neighbour_within self.now.shape at side) }
         ensures inside { IfSome result (λ other. other < cells self.now.shape) }
     {
         let other = self.shape.neighbour(at, side)?;
         self.tile[at]
             .shares_bracket(&self.tile[other])
             .then_some(other)
+    }
+
+    // The weight of the tie on a side, where it is live; else 0, as of no tie.
+    pub(crate) fn live_weight(&self, at: usize, side: Side) -> u16
+        requires { at < cells self.now.shape }
+        ensures { result ≡ (if is_live self.now.shape self.now.tile.now at side then stored_tie (cell self.now.tile.now at) side else 0) }
+    {
+        if self.live_neighbour(at, side).is_some() {
+            self.tile[at].tie(side)
+        } else {
+            0
+        }
     }
 
     // Are the tie and the flow on one side as a cut maker wants them?
@@ -76,8 +93,5 @@ impl<'a> Chart<'a> {
 pub fn is_cuttable(shape: Shape, tile: &[Cell]) -> bool
     ensures { IsTrue result ↔ Cuttable shape tile.now }
 {
-    match Chart::of(shape, tile) {
-        Some(chart) => chart.fits(),
-        None => false,
-    }
+    tile.len() >= shape.cells() && Chart { shape, tile }.fits()
 }

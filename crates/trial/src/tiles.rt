@@ -47,37 +47,36 @@ fn record(random: &mut Random, shape: Shape, at: usize, sizes: Sizes) -> Cell {
     }
 }
 
-// A flow within the weight of a live tie, by a number that was drawn; 0 elsewhere.
-fn start_flow(live: bool, weight: u16, drawn: u64) -> i32 {
-    if !live {
-        return 0;
-    }
+// A flow within the weight of a live tie, by a number that was drawn.
+fn start_flow(weight: u16, drawn: u64) -> i32 {
     let weight = u64::from(weight);
     (drawn % (2 * weight + 1)) as i32 - weight as i32
 }
 
-// Gives one record flows to start from where its ties are live, and any mark and rank.
-fn stir(random: &mut Random, cell: &mut Cell, right_live: bool, down_live: bool) {
+// Gives one record flows to start from, within the weights of its live ties, and any mark and rank.
+fn stir(random: &mut Random, cell: &mut Cell, right: u16, down: u16) {
     let drawn = random.below(1 << 20);
     let also = random.below(1 << 20);
-    cell.right_flow = start_flow(right_live, cell.right, drawn);
-    cell.down_flow = start_flow(down_live, cell.down, also);
+    cell.right_flow = start_flow(right, drawn);
+    cell.down_flow = start_flow(down, also);
     cell.mark = (drawn % 256) as u8;
     cell.rank = (also % 65_536) as u16;
 }
 
 // Fills the records of a tile.
 pub(crate) fn fill(random: &mut Random, shape: Shape, tile: &mut [Cell], sizes: Sizes) {
-    for (at, cell) in tile.iter_mut().take(shape.cells()).enumerate() {
+    let n = shape.cells();
+    if tile.len() < n {
+        return;
+    }
+    for (at, cell) in tile[..n].iter_mut().enumerate() {
         *cell = record(random, shape, at, sizes);
     }
-    // A cell's ties are live by its neighbours' brackets, so this needs its index.
-    for at in 0..shape.cells() {
-        let Some(chart) = Chart::of(shape, tile) else {
-            return;
-        };
-        let right_live = chart.live_neighbour(at, Side::Rightward).is_some();
-        let down_live = chart.live_neighbour(at, Side::Downward).is_some();
-        stir(random, &mut tile[at], right_live, down_live);
+    // A cell's ties are live by its neighbours' brackets, so this goes by number.
+    for at in 0..n {
+        let chart = Chart { shape, tile };
+        let right = chart.live_weight(at, Side::Rightward);
+        let down = chart.live_weight(at, Side::Downward);
+        stir(random, &mut tile[at], right, down);
     }
 }

@@ -1,5 +1,4 @@
-use Rattle.std.proofs.Common.{◌≡◌, ℕ, ◌<◌, ◌≤◌, Bool, length, subst}
-use Rattle.std.specs.Prelude.{◌↔◌, IsTrue}
+use Rattle.std.proofs.Common.{◌≡◌, ℕ, ◌<◌, ◌≤◌, length, arith}
 use Rattle.tile.specs.declared.shape.Shape.{Shape}
 use Rattle.tile.specs.declared.side.Side.{Side}
 use Rattle.tile.specs.declared.side.Side.TheVariants.{Rightward, Downward}
@@ -29,12 +28,6 @@ cuttable_fits s t whole all = record {
 fits_cuttable : (s : Shape) (t : Tile) → Cuttable s t → AllFit s t
 fits_cuttable s t k u l = record { charge = k.charges u l; right = side_of s t u Rightward l k; down = side_of s t u Downward l k }
 
-decided : (s s' : Shape) (t t' : Tile) (r : Bool) → s' ≡ s → t' ≡ t → cells s' ≤ length t' → (IsTrue r ↔ AllFit s' t') → IsTrue r ↔ Cuttable s t
-decided s s' t t' r p q whole e =
-    subst (λ (x : Shape). IsTrue r ↔ Cuttable x t) p
-    (subst (λ (x : Tile). IsTrue r ↔ Cuttable s' x) q (λ h. cuttable_fits s' t' whole (e.0 h), λ k. e.1 (fits_cuttable s' t' k)))
-
-pub returns-in-Some : goal.returns-in-Some
-returns-in-Some c =
-    let of = c.in-Some.ensures in
-    decided c.args.shape c.in-Some.chart.shape c.args.tile.now c.in-Some.chart.tile.now c.fits.result of.0 of.1 c.in-Some.chart.whole c.fits.ensures
+pub returns-then-tile-cells : goal.returns-then-tile-cells
+returns-then-tile-cells c =
+    (λ e. cuttable_fits c.args.shape c.args.tile.now (omega arith) (c.fits.ensures.0 e), λ k. c.fits.ensures.1 (fits_cuttable c.args.shape c.args.tile.now k))

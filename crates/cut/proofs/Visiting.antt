@@ -101,10 +101,17 @@ module _ {X : Type 0} (spot : X → ℕ) (came : X → Option Direction) where
   pub load_pop : (c : ℕ) (t t' : Tile) (r r1 r2 : Queue X) (s : X) → waits r ≡ s ∷ waits r1 → Visits spot came c (spot s) t t' r1 r2 → load t' (spots spot r2) < load t (spots spot r)
   load_pop c t t' r r1 r2 s q v = omega (arith, v.load_same, ap length (ap (map spot) q))
 
-  -- the same, seen from the tile before
-  pub inside_on : (t t' : Tile) (q q' : Queue X) → SameFlows t t' → (AllInside spot t' q → AllInside spot t' q') → AllInside spot t q → AllInside spot t q'
-  inside_on t t' q q' l f a =
-      subst (λ (n : ℕ). All (λ x. spot x < n) (waits q')) l.long (f (subst (λ (n : ℕ). All (λ x. spot x < n) (waits q)) (sym l.long) a))
+  -- in a tile of the same length
+  pub inside_kept : (n n' : ℕ) (xs : List X) → n' ≡ n → All (λ x. spot x < n) xs → All (λ x. spot x < n') xs
+  inside_kept n n' xs e a = subst (λ (k : ℕ). All (λ x. spot x < k) xs) (sym e) a
+
+  -- seen from the tile before
+  inside_on : (t t' : Tile) (q q' : Queue X) → SameFlows t t' → (AllInside spot t' q → AllInside spot t' q') → AllInside spot t q → AllInside spot t q'
+  inside_on t t' q q' l f a = inside_kept (length t') (length t) (waits q') (sym l.long) (f (inside_kept (length t) (length t') (waits q) l.long a))
+
+  -- the entry that is fetched, and those that still wait
+  pub inside_rest : (t : Tile) (q q' : Queue X) (e : X) → Dequeued q q' (Some e) → AllInside spot t q → (spot e < length t) × AllInside spot t q'
+  inside_rest t q q' e d a = let b : All (λ x. spot x < length t) (e ∷ waits q') = subst (All (λ x. spot x < length t)) d.first a in (b.0, b.1)
 
   -- an entry more, where there is room for it, keeps all inside
   pub inside_more : (n : ℕ) (q q' : Queue X) (e : X) (b : Result ⊤ X) → Enqueued q q' e b → spot e < n → All (λ x. spot x < n) (waits q) → All (λ x. spot x < n) (waits q')

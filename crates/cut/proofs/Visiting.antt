@@ -168,6 +168,12 @@ module _ {X : Type 0} (spot : X → ℕ) (came : X → Option Direction) where
     pub inside : AllInside spot f.tile.now r → AllInside spot f.tile.now r'
     pub search : Looks spot came f.columns (spot e) (came e) f.tile.now r → Gone f.columns (spot e) (came e) n f.tile.now f'.tile.now r r'
 
+  gone_none : (c u : ℕ) (from : Option Direction) (t : Tile) (r : Queue X) → Looks spot came c u from t r → Gone c u from 0 t t r r
+  gone_none c u from t r k = record { looks = k; grows = grows_self t; done = λ k l. absurd (omega arith); load_same = omega arith; olds = λ x a. a; news = λ x p. inl p }
+
+  pub going_none : (e : X) (f : Flows) (r : Queue X) → Going e 0 f f r r
+  going_none e f r = record { level = leveled_self f; rooms = refl; inside = λ a. a; search = λ k. gone_none f.columns (spot e) (came e) f.tile.now r k }
+
   pub going_more : (e : X) (n : ℕ) (f f1 f2 : Flows) (r r1 r2 : Queue X) → Going e n f f1 r r1 → Goes spot came e (get_or ways n Right) f1 f2 r1 r2 → Going e (n + 1) f f2 r r2
   going_more e n f f1 f2 r r1 r2 g v = record {
     level = leveled_trans f f1 f2 g.level v.level;

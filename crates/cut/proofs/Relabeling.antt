@@ -1,9 +1,8 @@
 -- Steps of push-relabel, one after the other.
 use Rattle.std.specs.Prelude.{⊤}
-use Rattle.std.proofs.Common.{◌≡◌, ℕ, ◌<◌, ◌∷◌, length, Some, None, Result, sym, subst}
-use Rattle.std.specs.List.{AllByRecursion as All}
+use Rattle.std.proofs.Common.{◌≡◌, ℕ, ◌<◌, length, None, Result, sym, subst}
 use Rattle.queue.specs.declared.Queue.{Queue}
-use Rattle.queue.specs.Queue.{waits, Enqueued, Dequeued}
+use Rattle.queue.specs.Queue.{waits, Enqueued}
 use Rattle.flow.specs.declared.flows.Flows.{Flows}
 use Rattle.flow.specs.Sides.{Eased}
 use Rattle.flow.specs.Lent.{SameRows}
@@ -11,7 +10,7 @@ use Rattle.flow.proofs.Pushes.{eased_trans, eased_level}
 use Rattle.cut.specs.Ranks.{ranked_at}
 use Rattle.cut.specs.Relabels.{Eases}
 use Rattle.cut.proofs.Searches.{level_ranked}
-use Rattle.cut.proofs.Visiting.{inside_more}
+use Rattle.cut.proofs.Visiting.{inside_more, inside_kept}
 use Rattle.cut.proofs.Lent.{rows_trans}
 
 pub eases_trans : (f f1 f2 : Flows) (q q1 q2 : Queue ℕ) → Eases f f1 q q1 → Eases f1 f2 q1 q2 → Eases f f2 q q2
@@ -20,7 +19,7 @@ eases_trans f f1 f2 q q1 q2 a b = record {
   eased = eased_trans f.columns f.tile.now f1.tile.now f2.tile.now a.eased (rw a.rows.columns at b.eased);
   inside = λ i.
       let long = a.eased.still.long in
-      subst (λ (n : ℕ). All (λ x. x < n) (waits q2)) long (b.inside (subst (λ (n : ℕ). All (λ x. x < n) (waits q1)) (sym long) (a.inside i)));
+      inside_kept (λ x. x) (λ _. None) _ _ (waits q2) (sym long) (b.inside (inside_kept (λ x. x) (λ _. None) _ _ (waits q1) long (a.inside i)));
 }
 
 -- one more cell waits
@@ -34,7 +33,3 @@ eases_ranked f f' q v r s e = record {
   eased = subst (Eased f.columns f.tile.now) (sym e) (eased_level f.columns f.tile.now (ranked_at f.tile.now v r) (level_ranked f.tile.now v r) f.sound);
   inside = λ i. i;
 }
-
--- the first that waits goes
-pub inside_rest : (n u : ℕ) (q q' : Queue ℕ) → Dequeued q q' (Some u) → All (λ x. x < n) (waits q) → (u < n) × All (λ x. x < n) (waits q')
-inside_rest n u q q' d a = let b : All (λ x. x < n) (u ∷ waits q') = subst (All (λ x. x < n)) d.first a in (b.0, b.1)

@@ -101,10 +101,17 @@ module _ {X : Type 0} (spot : X → ℕ) (came : X → Option Direction) where
   pub load_pop : (c : ℕ) (t t' : Tile) (r r1 r2 : Queue X) (s : X) → waits r ≡ s ∷ waits r1 → Visits spot came c (spot s) t t' r1 r2 → load t' (spots spot r2) < load t (spots spot r)
   load_pop c t t' r r1 r2 s q v = omega (arith, v.load_same, ap length (ap (map spot) q))
 
-  -- the same, seen from the tile before
-  pub inside_on : (t t' : Tile) (q q' : Queue X) → SameFlows t t' → (AllInside spot t' q → AllInside spot t' q') → AllInside spot t q → AllInside spot t q'
-  inside_on t t' q q' l f a =
-      subst (λ (n : ℕ). All (λ x. spot x < n) (waits q')) l.long (f (subst (λ (n : ℕ). All (λ x. spot x < n) (waits q)) (sym l.long) a))
+  -- in a tile of the same length
+  pub inside_kept : (n n' : ℕ) (xs : List X) → n' ≡ n → All (λ x. spot x < n) xs → All (λ x. spot x < n') xs
+  inside_kept n n' xs e a = subst (λ (k : ℕ). All (λ x. spot x < k) xs) (sym e) a
+
+  -- seen from the tile before
+  inside_on : (t t' : Tile) (q q' : Queue X) → SameFlows t t' → (AllInside spot t' q → AllInside spot t' q') → AllInside spot t q → AllInside spot t q'
+  inside_on t t' q q' l f a = inside_kept (length t') (length t) (waits q') (sym l.long) (f (inside_kept (length t) (length t') (waits q) l.long a))
+
+  -- the entry that is fetched, and those that still wait
+  pub inside_rest : (t : Tile) (q q' : Queue X) (e : X) → Dequeued q q' (Some e) → AllInside spot t q → (spot e < length t) × AllInside spot t q'
+  inside_rest t q q' e d a = let b : All (λ x. spot x < length t) (e ∷ waits q') = subst (All (λ x. spot x < length t)) d.first a in (b.0, b.1)
 
   -- an entry more, where there is room for it, keeps all inside
   pub inside_more : (n : ℕ) (q q' : Queue X) (e : X) (b : Result ⊤ X) → Enqueued q q' e b → spot e < n → All (λ x. spot x < n) (waits q) → All (λ x. spot x < n) (waits q')
@@ -160,6 +167,12 @@ module _ {X : Type 0} (spot : X → ℕ) (came : X → Option Direction) where
     pub rooms : capacity r' ≡ capacity r
     pub inside : AllInside spot f.tile.now r → AllInside spot f.tile.now r'
     pub search : Looks spot came f.columns (spot e) (came e) f.tile.now r → Gone f.columns (spot e) (came e) n f.tile.now f'.tile.now r r'
+
+  gone_none : (c u : ℕ) (from : Option Direction) (t : Tile) (r : Queue X) → Looks spot came c u from t r → Gone c u from 0 t t r r
+  gone_none c u from t r k = record { looks = k; grows = grows_self t; done = λ k l. absurd (omega arith); load_same = omega arith; olds = λ x a. a; news = λ x p. inl p }
+
+  pub going_none : (e : X) (f : Flows) (r : Queue X) → Going e 0 f f r r
+  going_none e f r = record { level = leveled_self f; rooms = refl; inside = λ a. a; search = λ k. gone_none f.columns (spot e) (came e) f.tile.now r k }
 
   pub going_more : (e : X) (n : ℕ) (f f1 f2 : Flows) (r r1 r2 : Queue X) → Going e n f f1 r r1 → Goes spot came e (get_or ways n Right) f1 f2 r1 r2 → Going e (n + 1) f f2 r r2
   going_more e n f f1 f2 r r1 r2 g v = record {

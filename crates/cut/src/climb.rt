@@ -29,7 +29,7 @@ pub(crate) fn above(flows: &Flows, v: usize, toward: Direction) -> Option<usize>
 {
     let u = flows.beside(v, toward)?;
     let (far, near) = (flows.tile[u].rank, flows.tile[v].rank);
-    (far.checked_sub(1) == Some(near)).then_some(u)
+    (u32::from(far) == u32::from(near) + 1).then_some(u)
 }
 
 // The cell in a direction, if its rank is one higher and it has room towards v.

@@ -60,7 +60,11 @@ fn lower(flows: &mut Flows, v: usize)
     ensures rows { SameRows flows.old flows.new }
     ensures lower { flows.new.tile.now ≡ ranked_at flows.old.tile.now v (lower_rank flows.old.tile.now flows.old.columns v) }
 {
-    let [right, down, left, up] = Direction::ALL.map(|toward| rank_beside(flows, v, toward));
+    // A map over `Direction::ALL` makes whole cuts a thirtieth slower.
+    let right = rank_beside(flows, v, Direction::Right);
+    let down = rank_beside(flows, v, Direction::Down);
+    let left = rank_beside(flows, v, Direction::Left);
+    let up = rank_beside(flows, v, Direction::Up);
     let highest = right.max(down).max(left.max(up));
     put_rank(flows, v, highest.saturating_sub(1));
 }

@@ -41,9 +41,11 @@ pub(crate) fn visit_all<E: Entry>(flows: &mut Flows, queue: &mut Queue<E>, entry
     requires { E.Entry.spot entry < length flows.old.tile.now }
     ensures { GoesOn E.Entry.spot E.Entry.came entry flows.old flows.new queue.old queue.new }
 {
-    for toward in Direction::ALL {
-        visit(flows, queue, entry, toward);
-    }
+    // A loop over `Direction::ALL` makes whole cuts a fifth slower.
+    visit(flows, queue, entry, Direction::Right);
+    visit(flows, queue, entry, Direction::Down);
+    visit(flows, queue, entry, Direction::Left);
+    visit(flows, queue, entry, Direction::Up);
 }
 
 // Ranks the deficit cells, and has them wait. It goes by number, since a cell's number is what waits.

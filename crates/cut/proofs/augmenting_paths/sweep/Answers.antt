@@ -1,8 +1,6 @@
-use Rattle.std.proofs.Common.{ℕ, ◌<◌, sym, subst}
-use Rattle.std.specs.List.{AllByRecursion as All}
-use Rattle.queue.specs.Queue.{waits}
 use Rattle.cut.specs.declared.entry.Step.{Step}
 use Rattle.cut.proofs.Lent.{leveled_trans, leveled_eased, eased_then, eased_relieved, relieved_eased}
+use Rattle.cut.proofs.Visiting.{inside_kept}
 use Rattle.cut.proofs.Settling.{swept_none, swept_met}
 use Rattle.cut.proofs.augmenting_paths.sweep.Goals as goal
 
@@ -12,8 +10,8 @@ returns-in_default c = swept_none _ _ (leveled_trans _ _ _ c.start_search.ensure
 pub go_on-requires : goal.go_on-requires
 go_on-requires c =
     let v = c.visit_all.ensures in
-    let j = subst (λ (n : ℕ). All (λ (x : Step). x.cell < n) (waits c.seek.new.queue)) (sym c.push_path.ensures.eased.holds.still.long) c.in-Some.ensures.inside in
-    subst (λ (n : ℕ). All (λ (x : Step). x.cell < n) (waits c.visit_all.new.queue)) (sym v.level.holds.long) (v.inside j)
+    let waiting = v.inside (inside_kept (λ (s : Step). s.cell) (λ (s : Step). s.side) _ _ _ c.push_path.ensures.eased.holds.still.long c.in-Some.ensures.inside) in
+    inside_kept (λ (s : Step). s.cell) (λ (s : Step). s.side) _ _ _ v.level.holds.long waiting
 
 pub returns : goal.returns
 returns c =

@@ -44,8 +44,8 @@ impl Direction {
         }
     }
 
-    // The flow that leaves a cell in this direction, where so much leaves the cell that stores the tie; and the other
-    // way round.
+    // The flow that leaves a cell in this direction, where so much leaves the cell that stores the tie: to the left and
+    // upward the sign turns.
     pub(crate) fn flow_out(self, flow: i32) -> i32
         requires { unsigned_abs flow ≤ 2 * most_tie }
         ensures { result ≡ flow_out self flow }

@@ -29,6 +29,10 @@ impl Candidate {
 }
 
 impl fmt::Display for Candidate {
+    ghost use Rattle.std.specs.Prelude.{Some};
+
+    ghost output = { λ candidate. Some (candidate_name candidate) };
+
     fn fmt<W: fmt::Write>(&self, f: &mut fmt::Formatter<W>) -> fmt::Result {
         f.write_str(self.name())
     }

@@ -43,6 +43,7 @@ pub fn lay_out(
     if tile.len() < cells || readings.len() < cells {
         return Err(Refusal::FewRecords);
     }
+    // A record is made by its number, which an `iter_mut` over the records would have to count besides.
     for (at, reading) in readings[..cells].iter().enumerate() {
         tile[at] = fresh_record(shape, at, *reading, class, tie);
     }

@@ -44,7 +44,7 @@ pub fn place_of_least(numbers: &[u64]) -> Option<usize>
     if numbers.is_empty() {
         return None;
     }
-    // A chain with `min_by_key` does not say that it picks the first of equals.
+    // The place is wanted and not the number: a chain would carry pairs, and need a lemma from its turns to the first best.
     let mut best = 0;
     for at in 1..numbers.len() {
         if numbers[at] < numbers[best] {
@@ -60,6 +60,6 @@ pub fn cheapest(energies: &[u64; 3]) -> Candidate
 {
     match place_of_least(energies) {
         Some(at) => Candidate::ALL[at],
-        None => Candidate::Readings,
+        None => unreachable!(),
     }
 }

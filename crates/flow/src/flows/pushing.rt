@@ -23,7 +23,7 @@ fn raise(tile: &mut [Cell], a: usize, side: Side, more: i32)
 }
 
 // What fits: the least of a surplus, of what is asked and of the room.
-fn fitting(surplus: i32, most: i32, room: i32) -> i32
+fn what_fits(surplus: i32, most: i32, room: i32) -> i32
     ensures { result ≡ int_min (int_min surplus most) room }
 {
     surplus.min(most).min(room)
@@ -58,7 +58,7 @@ impl<'a> Flows<'a> {
         let Some(v) = self.beside(u, toward) else {
             return false;
         };
-        let f = fitting(self.remainder(v), most, self.room(u, toward));
+        let f = what_fits(self.remainder(v), most, self.room(u, toward));
         if f <= 0 {
             return false;
         }

@@ -43,37 +43,37 @@ module _ (t : Tile) (c : ℕ) (h : Direction) (u v : ℕ) (r m f most : ℤ) (ve
 
 pub push-requires-clause-fits : goal.push-requires-clause-fits
 push-requires-clause-fits c =
-    let k : SFits w32 c.fitting-f.result = search rules in
-    let b = under_room _ _ _ _ _ _ _ _ _ (found_is _ _ _ c.in-Some.ensures).1 c.remainder.ensures.value c.remainder.ensures.few c.room.ensures.value c.room.ensures.few c.ranges.most c.fitting-f.ensures in
+    let k : SFits w32 c.what_fits-f.result = search rules in
+    let b = under_room _ _ _ _ _ _ _ _ _ (found_is _ _ _ c.in-Some.ensures).1 c.remainder.ensures.value c.remainder.ensures.few c.room.ensures.value c.room.ensures.few c.ranges.most c.what_fits-f.ensures in
     omega (arith, ints)
 
 pub push-requires-clause-few : goal.push-requires-clause-few
 push-requires-clause-few c =
-    let k : SFits w32 c.fitting-f.result = search rules in
-    let b = (under _ _ _ _ _ _ _ _ _ (found_is _ _ _ c.in-Some.ensures).1 c.remainder.ensures.value c.remainder.ensures.few c.room.ensures.value c.room.ensures.few c.ranges.most c.fitting-f.ensures).1 in
+    let k : SFits w32 c.what_fits-f.result = search rules in
+    let b = (under _ _ _ _ _ _ _ _ _ (found_is _ _ _ c.in-Some.ensures).1 c.remainder.ensures.value c.remainder.ensures.few c.room.ensures.value c.room.ensures.few c.ranges.most c.what_fits-f.ensures).1 in
     let l = c.room.ensures.few in
     omega (arith, ints)
 
 pub returns-then-f-le0-clause-sent : goal.returns-then-f-le0-clause-sent
 returns-then-f-le0-clause-sent c =
-    let k : SFits w32 c.fitting-f.result = search rules in
+    let k : SFits w32 c.what_fits-f.result = search rules in
     record {
       moved = λ e. absurd (false≢true e);
       none = λ _. refl;
-      sure = λ o s. let p = some _ _ _ _ _ _ _ _ _ (found_is _ _ _ c.in-Some.ensures).1 c.remainder.ensures.value c.remainder.ensures.few c.room.ensures.value c.room.ensures.few c.ranges.most c.fitting-f.ensures c.requires.some o s in absurd (omega (arith, ints));
+      sure = λ o s. let p = some _ _ _ _ _ _ _ _ _ (found_is _ _ _ c.in-Some.ensures).1 c.remainder.ensures.value c.remainder.ensures.few c.room.ensures.value c.room.ensures.few c.ranges.most c.what_fits-f.ensures c.requires.some o s in absurd (omega (arith, ints));
       eased = eased_self _ _ c.args.self.now.sound;
     }
 
 pub returns-clause-sent : goal.returns-clause-sent
 returns-clause-sent c =
-    let k : SFits w32 c.fitting-f.result = search rules in
+    let k : SFits w32 c.what_fits-f.result = search rules in
     let ve = (found_is _ _ _ c.in-Some.ensures).1 in
-    let e : c.push.new.self.tile.now ≡ pushed c.args.self.now.tile.now c.args.self.now.columns c.args.toward c.args.u c.fitting-f.result = c.push.ensures.pushed ∙ ap (pushed c.args.self.now.tile.now c.args.self.now.columns c.args.toward c.args.u) (to_z-of_z w32 _ k) in
-    let o : pos 0 <ℤ c.fitting-f.result = omega (arith, ints) in
-    let a = under_remains _ _ _ _ _ _ _ _ _ ve c.remainder.ensures.value c.remainder.ensures.few c.room.ensures.value c.room.ensures.few c.ranges.most c.fitting-f.ensures in
-    let b = under_room _ _ _ _ _ _ _ _ _ ve c.remainder.ensures.value c.remainder.ensures.few c.room.ensures.value c.room.ensures.few c.ranges.most c.fitting-f.ensures in
+    let e : c.push.new.self.tile.now ≡ pushed c.args.self.now.tile.now c.args.self.now.columns c.args.toward c.args.u c.what_fits-f.result = c.push.ensures.pushed ∙ ap (pushed c.args.self.now.tile.now c.args.self.now.columns c.args.toward c.args.u) (to_z-of_z w32 _ k) in
+    let o : pos 0 <ℤ c.what_fits-f.result = omega (arith, ints) in
+    let a = under_remains _ _ _ _ _ _ _ _ _ ve c.remainder.ensures.value c.remainder.ensures.few c.room.ensures.value c.room.ensures.few c.ranges.most c.what_fits-f.ensures in
+    let b = under_room _ _ _ _ _ _ _ _ _ ve c.remainder.ensures.value c.remainder.ensures.few c.room.ensures.value c.room.ensures.few c.ranges.most c.what_fits-f.ensures in
     record {
-      moved = λ _. (c.fitting-f.result, o, b, a, e);
+      moved = λ _. (c.what_fits-f.result, o, b, a, e);
       none = λ q. absurd (true≢false q);
       sure = λ _ _. refl;
       eased = rw e (eased_pushed _ _ _ _ _ c.args.self.now.sound c.requires.place o b a);

@@ -1,15 +1,15 @@
--- The shapes of the three prices, and so their steps and the laws of the three rules.
-use Rattle.std.specs.Prelude.{◌≡◌, ℕ, ◌+◌, ◌-◌, ◌*◌, ◌≤◌, cond, nat_le, pos, neg_ℤ}
+-- The shapes of the three prices, and so the laws of the three rules.
+use Rattle.std.specs.Prelude.{◌≡◌, ℕ, ◌+◌, ◌-◌, ◌*◌, ◌≤◌, cond, nat_le}
 use Rattle.std.proofs.Common.{ap, ◌∙◌, inl, inr, mul-add, add-mul, mul-one, arith}
 use Rattle.std.proofs.lemmas.Nat.{mul-le}
 use Rattle.std.proofs.lemmas.Bool.{cases_lt, le-leb, lt-leb}
 use Rattle.limits.specs.Limits.{most_top, most_class, most_price, most_step}
-use Rattle.price.specs.Rules.{Lawful, price_step}
+use Rattle.price.specs.Rules.{Lawful}
 use Rattle.price.specs.Weights.{class_weight, most_weight}
 use Rattle.theory.specs.Grids.{gap}
-use Rattle.price.specs.Kinds.{absolute, squared, leaning, absolute_price, squared_price, leaning_price}
+use Rattle.price.specs.Kinds.{absolute, squared, leaning, squared_price}
 use Rattle.price.specs.Making.{RuleLevel}
-use Rattle.price.specs.Shapes.{Shape, step_by_side, lawful}
+use Rattle.price.specs.Shapes.{Shape, lawful}
 
 pub weight_most : (q : ℕ) → q ≤ most_class → class_weight q ≤ most_weight
 weight_most q h =
@@ -27,9 +27,6 @@ absolute_shape t = record {
   up_more = λ _. omega arith;
   down_more = λ _. omega arith;
 }
-
-pub absolute_step : (v q k : ℕ) → price_step absolute_price v q k ≡ cond (nat_le v k) (pos (class_weight q)) (neg_ℤ (pos (class_weight q)))
-absolute_step v q k = step_by_side (absolute_shape (class_weight q)) v k
 
 pub absolute_lawful : (t : ℕ) → RuleLevel t → Lawful (absolute t)
 absolute_lawful t level = lawful (absolute t) level (record {
@@ -68,11 +65,6 @@ squared_shape t = record {
   down_more = odd_more t;
 }
 
-pub squared_step : (v q k : ℕ) →
-    price_step squared_price v q k
-    ≡ cond (nat_le v k) (pos (class_weight q * (2 * (k - v) + 1))) (neg_ℤ (pos (class_weight q * (2 * (v - k - 1) + 1))))
-squared_step v q k = step_by_side (squared_shape (class_weight q)) v k
-
 pub squared_lawful : (t : ℕ) → RuleLevel t → Lawful (squared t)
 squared_lawful t level = lawful (squared t) level (record {
   up = λ q n. class_weight q * (2 * n + 1);
@@ -101,9 +93,6 @@ leaning_shape t = record {
   up_more = λ _. omega arith;
   down_more = λ _. omega arith;
 }
-
-pub leaning_step : (v q k : ℕ) → price_step leaning_price v q k ≡ cond (nat_le v k) (pos (4 * class_weight q)) (neg_ℤ (pos (class_weight q)))
-leaning_step v q k = step_by_side (leaning_shape (class_weight q)) v k
 
 pub leaning_lawful : (t : ℕ) → RuleLevel t → Lawful (leaning t)
 leaning_lawful t level = lawful (leaning t) level (record {

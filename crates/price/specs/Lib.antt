@@ -3,5 +3,6 @@ pub mod Weights
 pub mod Kinds
 pub mod Making
 pub mod Made
+pub mod Asking
 pub mod Kept
 pub mod Shapes

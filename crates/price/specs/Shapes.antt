@@ -1,8 +1,8 @@
 -- The laws of every price that has one shape: it rises with every level away from the reading, and by no less from level to level.
-use Rattle.std.specs.Prelude.{◌≡◌, ℕ, ◌+◌, ◌-◌, ◌<◌, ◌≤◌, cond, nat_le, ℤ, pos, ◌-ℤ◌, neg_ℤ, ◌≤ℤ◌}
+use Rattle.std.specs.Prelude.{◌≡◌, ℕ, ◌+◌, ◌-◌, ◌<◌, ◌≤◌, ℤ, pos, ◌-ℤ◌, neg_ℤ, ◌≤ℤ◌}
 use Rattle.std.proofs.Common.{ap, inl, inr, arith}
 use Rattle.std.proofs.lemmas.Int.{ints}
-use Rattle.std.proofs.lemmas.Bool.{cases_lt, le-leb, lt-leb}
+use Rattle.std.proofs.lemmas.Bool.{cases_lt}
 use Rattle.limits.specs.Limits.{most_class, most_price, most_step}
 use Rattle.price.specs.Rules.{Rule, Lawful}
 use Rattle.price.specs.Making.{RuleLevel}
@@ -28,25 +28,11 @@ side : (v k : ℕ) → Side v k
 side v k = elim (cases_lt k v) [ inl h ↦ below (v - k - 1) (omega arith) | inr h ↦ above (k - v) (omega arith) ]
 
 module _ {p : ℕ → ℕ → ℕ} {up down : ℕ → ℕ} (s : Shape p up down) where
-  rise_at : (v k n : ℕ) → k ≡ v + n → p v (k + 1) ≡ p v k + up n
+  pub rise_at : (v k n : ℕ) → k ≡ v + n → p v (k + 1) ≡ p v k + up n
   rise_at v k n e = rw e (s.rises v n)
 
-  fall_at : (v k n : ℕ) → v ≡ k + n + 1 → p v k ≡ p v (k + 1) + down n
+  pub fall_at : (v k n : ℕ) → v ≡ k + n + 1 → p v k ≡ p v (k + 1) + down n
   fall_at v k n e = rw e (s.falls k n)
-
-  -- the step from a height at or above the reading, and from one below it
-  pub step_up : (v k : ℕ) → v ≤ k → one_step p v k ≡ pos (up (k - v))
-  step_up v k h = let e = rise_at v k (k - v) (omega arith) in omega (arith, ints)
-
-  pub step_down : (v k : ℕ) → k < v → one_step p v k ≡ neg_ℤ (pos (down (v - k - 1)))
-  step_down v k h = let e = fall_at v k (v - k - 1) (omega arith) in omega (arith, ints)
-
-  -- the step by the side on which the height stands
-  pub step_by_side : (v k : ℕ) → one_step p v k ≡ cond (nat_le v k) (pos (up (k - v))) (neg_ℤ (pos (down (v - k - 1))))
-  step_by_side v k = elim (cases_lt k v) [
-    | inl h ↦ rw (lt-leb v k h) (step_down v k h)
-    | inr h ↦ rw (le-leb v k h) (step_up v k h)
-  ]
 
   -- the step never falls when the height rises by 1
   pub rising : (v k : ℕ) → one_step p v k ≤ℤ one_step p v (k + 1)

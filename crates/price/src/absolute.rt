@@ -6,12 +6,12 @@ use crate::curve::{Curve, CurveRule};
 use crate::question::Question;
 use crate::weight::class_weight;
 
-pub type Absolute = CurveRule<AbsoluteDistance>;
+pub type Absolute = CurveRule<AbsoluteCurve>;
 
 #[derive(Clone, Copy)]
-pub struct AbsoluteDistance;
+pub struct AbsoluteCurve;
 
-impl Curve for AbsoluteDistance {
+impl Curve for AbsoluteCurve {
     ghost price = { absolute_price };
 
     ghost lawful = { absolute_lawful };
@@ -20,7 +20,7 @@ impl Curve for AbsoluteDistance {
         class_weight(asked.class) * u32::from(asked.height.abs_diff(asked.reading))
     }
 
-    #[tactic(auto, using(crate::specs::Kept::absolute_step))]
+    #[tactic(auto, using(crate::proofs::Steps::absolute_step))]
     fn step_at(asked: Question) -> i32 {
         let weight = class_weight(asked.class) as i32;
         if asked.reading <= asked.height {

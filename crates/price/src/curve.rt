@@ -58,27 +58,16 @@ impl<C: Curve> PriceRule for CurveRule<C> {
         self.greatest.level()
     }
 
+    // Closures here and in `step`: the borrow checker does not cover `map_or(0, C::price_at)`, the path of a trait's function, yet.
     fn price(&self, reading: u16, class: u8, height: u16) -> u32 {
-        if self.greatest.has_price(reading, class, height) {
-            C::price_at(Question {
-                reading,
-                class,
-                height,
-            })
-        } else {
-            0
-        }
+        self.greatest
+            .question(reading, class, height)
+            .map_or(0, |asked| C::price_at(asked))
     }
 
     fn step(&self, reading: u16, class: u8, height: u16) -> i32 {
-        if self.greatest.has_step(reading, class, height) {
-            C::step_at(Question {
-                reading,
-                class,
-                height,
-            })
-        } else {
-            0
-        }
+        self.greatest
+            .step_question(reading, class, height)
+            .map_or(0, |asked| C::step_at(asked))
     }
 }

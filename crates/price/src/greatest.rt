@@ -2,7 +2,9 @@
 ghost use Rattle.std.specs.Prelude.{◌≡◌, ◌&&◌, nat_le, nat_lt};
 ghost use Rattle.price.specs.Rules.{known};
 ghost use Rattle.price.specs.Making.{RuleLevel, MadeFor};
+ghost use Rattle.price.specs.Asking.{AskedWhere};
 
+use crate::question::Question;
 use limits::{MAX_CLASS, MAX_TOP, Refusal};
 
 // A level from 1 to the greatest that a rule may be made for.
@@ -31,24 +33,28 @@ impl Greatest {
         self.level
     }
 
-    // Is this reading of this class known to a rule with this greatest level?
-    pub(crate) fn knows(self, reading: u16, class: u8) -> bool
-        ensures { result ≡ known self.level reading class }
+    // What a curve is asked, if a rule made for this level has a price for the height.
+    pub(crate) fn question(self, reading: u16, class: u8, height: u16) -> Option<Question>
+        ensures { AskedWhere (known self.level reading class && nat_le height self.level)
+            reading class height result }
     {
-        reading <= self.level && class <= MAX_CLASS
+        if reading <= self.level && class <= MAX_CLASS && height <= self.level {
+            Some(Question {
+                reading,
+                class,
+                height,
+            })
+        } else {
+            None
+        }
     }
 
-    // Does such a rule have a price for this height?
-    pub(crate) fn has_price(self, reading: u16, class: u8, height: u16) -> bool
-        ensures { result ≡ (known self.level reading class && nat_le height self.level) }
+    // What a curve is asked, if such a rule has a step from the height to the next.
+    pub(crate) fn step_question(self, reading: u16, class: u8, height: u16) -> Option<Question>
+        ensures { AskedWhere (known self.level reading class && nat_lt height self.level)
+            reading class height result }
     {
-        self.knows(reading, class) && height <= self.level
-    }
-
-    // Does such a rule have a step from this height to the next?
-    pub(crate) fn has_step(self, reading: u16, class: u8, height: u16) -> bool
-        ensures { result ≡ (known self.level reading class && nat_lt height self.level) }
-    {
-        self.knows(reading, class) && height < self.level
+        self.question(reading, class, height)
+            .filter(|asked| asked.height < self.level)
     }
 }

@@ -6,12 +6,14 @@ use crate::curve::{Curve, CurveRule};
 use crate::question::Question;
 use crate::weight::class_weight;
 
-pub type Leaning = CurveRule<LeaningDistance>;
+pub type Leaning = CurveRule<LeaningCurve>;
 
+// Not one curve over the factor above the reading: the two prices are two formulas, and the absolute one would no longer be
+// read off its rule.
 #[derive(Clone, Copy)]
-pub struct LeaningDistance;
+pub struct LeaningCurve;
 
-impl Curve for LeaningDistance {
+impl Curve for LeaningCurve {
     ghost price = { leaning_price };
 
     ghost lawful = { leaning_lawful };
@@ -25,7 +27,7 @@ impl Curve for LeaningDistance {
         }
     }
 
-    #[tactic(auto, using(crate::specs::Kept::leaning_step))]
+    #[tactic(auto, using(crate::proofs::Steps::leaning_step))]
     fn step_at(asked: Question) -> i32 {
         let weight = class_weight(asked.class) as i32;
         if asked.reading <= asked.height {

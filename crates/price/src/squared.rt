@@ -9,12 +9,12 @@ use crate::curve::{Curve, CurveRule};
 use crate::question::Question;
 use crate::weight::class_weight;
 
-pub type Squared = CurveRule<SquaredDistance>;
+pub type Squared = CurveRule<SquaredCurve>;
 
 #[derive(Clone, Copy)]
-pub struct SquaredDistance;
+pub struct SquaredCurve;
 
-impl Curve for SquaredDistance {
+impl Curve for SquaredCurve {
     ghost price = { squared_price };
 
     ghost lawful = { squared_lawful };
@@ -24,7 +24,7 @@ impl Curve for SquaredDistance {
         class_weight(asked.class) * square(asked.height.abs_diff(asked.reading))
     }
 
-    #[tactic(auto, using(crate::specs::Kept::squared_step))]
+    #[tactic(auto, using(crate::proofs::Steps::squared_step))]
     fn step_at(asked: Question) -> i32 {
         if asked.reading <= asked.height {
             rise(asked.class, asked.height - asked.reading) as i32

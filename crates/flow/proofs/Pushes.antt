@@ -214,6 +214,3 @@ eased_level c t t' p s = record {
   sound = sound_level c t t' p s;
   less = λ b. omega (arith, ap down (remains_level t t' p c b));
 }
-
-pub eased_four : (c : ℕ) (t t1 t2 t3 t4 : Tile) → Eased c t t1 → Eased c t1 t2 → Eased c t2 t3 → Eased c t3 t4 → Eased c t t4
-eased_four c t t1 t2 t3 t4 a b d e = eased_trans c t t2 t4 (eased_trans c t t1 t2 a b) (eased_trans c t2 t3 t4 d e)

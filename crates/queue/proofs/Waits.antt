@@ -1,7 +1,6 @@
 use Rattle.std.specs.Prelude.{⊤}
-use Rattle.std.proofs.Common.{◌≡◌, ◌+◌, ◌<◌, ◌≤◌, [], ◌∷◌, ◌++◌, length, Some, None, Option, Result, IsOk, Ok, Err, sym, refl, ap, ◌∙◌, true≢false, arith}
-use Rattle.std.proofs.lemmas.List.{length_push}
-use Rattle.queue.specs.Queue.{waits, capacity, Enqueued, Dequeued}
+use Rattle.std.proofs.Common.{◌≡◌, ◌<◌, [], ◌∷◌, ◌++◌, length, Result, Ok, Err, sym, true≢false}
+use Rattle.queue.specs.Queue.{waits, capacity, Enqueued}
 use Rattle.queue.specs.declared.Queue.{Queue}
 use Rattle.queue.proofs.Rings.{length_waiting}
 

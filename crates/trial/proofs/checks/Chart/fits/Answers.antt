@@ -1,4 +1,4 @@
-use Rattle.std.proofs.Common.{◌≡◌, refl, sym, subst, arith, rules}
+use Rattle.std.proofs.Common.{refl, subst, arith, rules}
 use borrow.Author.Tests.{tests}
 use Rattle.std.specs.Prelude.{ℕ, ◌<◌, ◌↔◌, IsTrue}
 use Rattle.std.proofs.lemmas.Iterator.{cases_from_all, YieldsList-from_range}

@@ -45,7 +45,8 @@ fn push_path(flows: &mut Flows, u: usize) -> Option<usize>
     None
 }
 
-// Goes on with the search, and pushes over what paths are left, until many are blocked.
+// Goes on with the search, and pushes over what paths are left, until many are blocked. The turns are counted, as nothing else
+// bounds them.
 fn go_on(flows: &mut Flows, queue: &mut Queue<Step>)
     requires { AllInside (λ (s : Record). s.cell) flows.old.tile.now queue.old }
     ensures { InPlace Eased flows.old flows.new }

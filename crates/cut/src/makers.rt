@@ -13,7 +13,8 @@ use flow::Flows;
 use flow::maker::CutMaker;
 use tile::{Cell, Shape};
 
-// What a maker does again and again, with a workspace of entries.
+// What a maker does again and again, with a workspace of entries. Flows and workspace come one by one: a struct over two `&mut`
+// would have to say in each contract that it still holds both.
 trait Sweep {
     type Entry;
 

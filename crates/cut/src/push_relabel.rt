@@ -98,7 +98,7 @@ fn collect(flows: &Flows, queue: &mut Queue<u16>)
     }
 }
 
-// Relieves surplus cells, until none waits or many have got lower ranks.
+// Relieves surplus cells, until none waits or many have got lower ranks. The turns are counted, as nothing else bounds them.
 fn drain(flows: &mut Flows, work: &mut [u16])
     ensures { InPlace Eased flows.old flows.new }
 {

@@ -4,7 +4,8 @@ ghost use Rattle.std.specs.Prelude.{◌≡◌};
 use crate::states::Rounding;
 use tile::Refusal;
 
-// A refused call gives back the state that it took.
+// A refused call gives back the state that it took. So a call takes its check's answer apart: with `map_err` and `?` the closure
+// would have taken the state, which the call goes on with.
 #[derive(Drop)]
 pub struct Refused<S> {
     pub state: S,

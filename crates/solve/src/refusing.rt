@@ -20,7 +20,7 @@ pub fn try_outside(draft: Draft, tile: &mut [Cell]) -> Draft
     ensures same_history { SameHistory draft tile.old result tile.new }
 {
     let row = row_outside(&draft);
-    // `unwrap_or_else` is no shorter, and its history needs a proof by hand.
+    // Tried `unwrap_or_else`: that every run goes on with the same history stayed open.
     match draft.put(tile, row, 0, 0, 0) {
         Ok(draft) => draft,
         Err(refused) => refused.state,

@@ -6,7 +6,7 @@ ghost use Rattle.flow.specs.Points.{Cuttable};
 use limits::{MAX_CHARGE, MAX_TIE};
 use tile::{Cell, Shape, Side};
 
-// A tile with a record for each cell of its shape.
+// A tile with a record for each cell of its shape. A cell comes by its number: its ties lead to others of the same chart.
 #[derive(Drop)]
 pub(crate) struct Chart<'a> {
     pub shape: Shape,

@@ -18,7 +18,7 @@ pub(crate) fn is_whole(shape: Shape, tile: &[Cell]) -> bool
     tile.len() >= shape.cells()
 }
 
-// The number of the cell in a row and a column, where they lie within the shape.
+// The number of the cell in a row and a column, where they lie within the shape. They come plain, as a host hands them to the calls.
 fn place(shape: Shape, row: usize, column: usize) -> Result<usize, Refusal>
     ensures place { Checked 4 Outside (Inside shape row column) (λ e. result ≡ Err e) (result ≡ Ok (place shape row column)) }
     ensures inside { IfOk result (λ at. at < cells shape) }

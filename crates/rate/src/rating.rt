@@ -44,7 +44,7 @@ pub fn place_of_least(numbers: &[u64]) -> Option<usize>
     if numbers.is_empty() {
         return None;
     }
-    // The place is wanted and not the number: a chain would carry pairs, and need a lemma from its turns to the first best.
+    // Tried `enumerate` and `min_by_key`: that it is the first of the least stayed open.
     let mut best = 0;
     for at in 1..numbers.len() {
         if numbers[at] < numbers[best] {

@@ -1,8 +1,9 @@
 // One tile, cut by both makers.
-ghost use Rattle.std.specs.Prelude.{◌≡◌, ℕ, ◌<◌, OnOk, OnErr};
+ghost use Rattle.std.specs.Prelude.{◌≡◌, ℕ, ◌<◌, ◌≤◌, length, IsOk, OnOk, OnErr};
 ghost use Rattle.theory.specs.Sets.{SmallestCheapestSet};
 ghost use Rattle.tile.specs.Shapes.{cells};
 ghost use Rattle.flow.specs.Networks.{network, charges, marks};
+ghost use Rattle.flow.specs.Points.{Cuttable};
 
 use crate::checks::is_cuttable;
 use cut::{AugmentingPaths, PushRelabel, Step};
@@ -10,7 +11,7 @@ use flow::run_cut;
 use tile::{Cell, Refusal, Shape};
 
 // Cuts two copies of a tile, one by each maker. Refuses with `FewEntries` where a workspace is too short and with `Corrupt` where
-// a copy may not be cut, and then cuts nothing. On equal copies the two makers mark the same cells.
+// a copy may not be cut, and for nothing else, and then cuts nothing. On equal copies the two makers mark the same cells.
 pub fn cut_both(
     shape: Shape,
     first: &mut [Cell],
@@ -18,6 +19,7 @@ pub fn cut_both(
     second: &mut [Cell],
     numbers: &mut [u16],
 ) -> Result<(), Refusal>
+    ensures accepted { cells shape ≤ length steps.old → cells shape ≤ length numbers.old → Cuttable shape first.old → Cuttable shape second.old → IsOk result }
     ensures uncut { OnErr result ((first.new ≡ first.old) × (second.new ≡ second.old)) }
     ensures alike { OnOk result (first.old ≡ second.old → (u : ℕ) → u < cells shape → marks first.new u ≡ marks second.new u) }
     ensures by_paths { OnOk result (SmallestCheapestSet (network shape first.old) (charges first.old) (marks first.new)) }

@@ -1,4 +1,4 @@
-use Rattle.std.proofs.Common.{sym, subst}
+use Rattle.std.proofs.Common.{refl, sym, subst}
 use Rattle.theory.specs.Sets.{SmallestCheapestSet}
 use Rattle.theory.proofs.Sets.{smallest_unique}
 use Rattle.tile.specs.Tiles.{Tile}
@@ -10,6 +10,7 @@ returns c =
     let a = c.run_cut.ensures.smallest in
     let b = c.run_cut-2.ensures.smallest in
     record {
+      accepted = λ _ _ _ _. refl;
       uncut = tt;
       alike = λ e.
           smallest_unique (network c.args.shape c.args.first.now) (charges c.args.first.now) (marks c.run_cut.new.tile) (marks c.run_cut-2.new.tile) a

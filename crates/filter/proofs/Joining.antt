@@ -1,5 +1,5 @@
 -- A call that does what its contract says goes on with every run that led to it.
-use Rattle.std.proofs.Common.{◌≡◌, ℕ, Ok, Err, Result, sym, refl, subst, arith}
+use Rattle.std.proofs.Common.{◌≡◌, ℕ, Ok, Err, Result, IfOk, sym, refl, subst, arith}
 use Rattle.limits.specs.Limits.{most_rows}
 use Rattle.limits.specs.declared.refusal.Refusal.{Refusal}
 use Rattle.price.specs.Rules.{Rule}
@@ -8,6 +8,7 @@ use Rattle.tile.specs.declared.side.Side.{Side}
 use Rattle.tile.specs.Shapes.{MadeOf}
 use Rattle.tile.specs.Tiles.{Tile}
 use Rattle.flow.specs.Points.{FourPoints}
+use Rattle.passes.specs.Soundness.{Sound}
 use Rattle.filter.specs.declared.states.Draft.{Draft}
 use Rattle.filter.specs.declared.states.Rounding.{Rounding}
 use Rattle.filter.specs.declared.states.Level.{Level}
@@ -68,12 +69,13 @@ begin_met d t answer w = record { does = w; goes_on = λ rule s h r r' run lent.
 
 pub round_met : {W : Type 0} (before after : W) (rule : Rule) (leaves : Shape → Tile → Tile → Type 0) → ((s : Shape) (before after : Tile) → leaves s before after → FourPoints s before after) →
     (r : Rounding) (t : Tile) (n : ℕ) (answer : Result Rounded (Refused Rounding)) (t' : Tile) → RoundDoes rule leaves r t n answer t' → MarksSmallest rule r.shape t answer t' →
-    SurveyKept r.shape t t' → KeptIfRefused answer before after →
-    record { does : RoundDoes rule leaves r t n answer t'; smallest : MarksSmallest rule r.shape t answer t'; kept : SurveyKept r.shape t t'; workspace : KeptIfRefused answer before after; goes_on : GoesOnUnder rule (rounding r) t rounding (λ a. rounding a.state) rounded answer t'; law : EveryRunKeepsTheLaw }
-round_met before after rule leaves keeps r t n answer t' w small kept free = record {
+    SurveyKept r.shape t t' → IfOk answer (λ a. Sound a.state.shape a.state.done t') → KeptIfRefused answer before after →
+    record { does : RoundDoes rule leaves r t n answer t'; smallest : MarksSmallest rule r.shape t answer t'; kept : SurveyKept r.shape t t'; sound : IfOk answer (λ a. Sound a.state.shape a.state.done t'); workspace : KeptIfRefused answer before after; goes_on : GoesOnUnder rule (rounding r) t rounding (λ a. rounding a.state) rounded answer t'; law : EveryRunKeepsTheLaw }
+round_met before after rule leaves keeps r t n answer t' w small kept sound free = record {
   does = w;
   smallest = small;
   kept = kept;
+  sound = sound;
   workspace = free;
   goes_on = λ s h o o' run lent. Run.then run lent (Call.round r n answer (any_maker rule leaves keeps r t n answer t' w));
   law = every_run;

@@ -152,7 +152,7 @@ alike : (rows columns top : ℕ) (a a' : Tall rows) (b b' : Wide columns) (c c' 
 alike rows columns top a a' b b' c c' =
     λ i. shape rows columns top (le_prop a.0 a'.0 i, le_prop a.1 a'.1 i) (le_prop b.0 b'.0 i, le_prop b.1 b'.1 i) (le_prop c.0 c'.0 i, le_prop c.1 c'.1 i)
 
-same_shape : (s s' : Shape) → SameShape s s' → s' ≡ s
+pub same_shape : (s s' : Shape) → SameShape s s' → s' ≡ s
 same_shape s s' k =
     sym
     (subst (λ (x : ℕ). (a : Tall x) → s ≡ shape x s'.columns s'.top a s'.wide s'.high) k.rows (λ a.

@@ -17,6 +17,7 @@ use Rattle.flow.specs.Points.{FourPoints}
 use Rattle.flow.specs.Sides.{uncut}
 use Rattle.passes.specs.Writing.{with_bracket, recharged}
 use Rattle.passes.specs.Rounds.{charge_in, charged, half_marked, Chargeable}
+use Rattle.passes.specs.Soundness.{Sound}
 use Rattle.passes.proofs.Rewrites.{rewritten_length, cell_past}
 use Rattle.passes.proofs.Sounds.{sound_chargeable}
 use Rattle.filter.specs.declared.states.Rounding.{Rounding}
@@ -40,6 +41,10 @@ pub ready : (s : Shape) (done : ℕ) (t : Tile) (entries greatest : ℕ) → Com
 ready s done t entries greatest =
     either (λ why z. none_found why z) (λ whole. either (λ why z. none_found why z) (λ sound. either (λ why z. none_found why z) (λ room. either (λ why z. none_found why z) (λ reach _.
     record { fit = sound_chargeable s done t whole sound; reach = reach; room = room }))))
+
+-- and what they found of its records
+pub found_sound : (s : Shape) (done : ℕ) (t : Tile) (entries greatest : ℕ) → ComesTo (Ok tt) s done t entries greatest → Sound s done t
+found_sound s done t entries greatest = either (λ why z. none_found why z) (λ _. either (λ why z. none_found why z) (λ sound _. sound))
 
 -- while a round is left, fewer than the most rounds are done
 left_few : (top done : ℕ) → top ≤ 1023 → RoundLeft top done → done < most_rounds

@@ -37,7 +37,7 @@ pub record Started (rows columns top : ℕ) (t : Tile) (answer : Result Draft Re
   pub writes : t' ≡ rewritten (rows * columns) (λ _. fresh top) t
 
 abbrev pub StartDoes : (rows columns top : ℕ) → Tile → Result Draft Refusal → Tile → Type 0
-StartDoes rows columns top t answer t' = StartChecked rows columns top t (λ e. (answer ≡ Err e) × (t' ≡ t)) (Started rows columns top t answer t')
+StartDoes rows columns top t answer t' = StartChecked rows columns top (length t) (λ e. (answer ≡ Err e) × (t' ≡ t)) (Started rows columns top t answer t')
 
 -- ---- put and tie
 

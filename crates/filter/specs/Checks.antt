@@ -1,5 +1,5 @@
 -- The checks of a call, in their order, and what they come to.
-use Rattle.std.specs.Prelude.{◌≡◌, ℕ, ◌+◌, ◌*◌, ◌<◌, ◌≤◌, length}
+use Rattle.std.specs.Prelude.{◌≡◌, ℕ, zero, suc, ◌+◌, ◌*◌, ◌<◌, ◌≤◌, length}
 use Rattle.limits.specs.Limits.{most_rows}
 use Rattle.limits.specs.Refusals.{number}
 use Rattle.limits.specs.declared.refusal.Refusal.{Refusal}
@@ -11,17 +11,26 @@ use Rattle.tile.specs.Shapes.{cells, Ranged}
 use Rattle.tile.specs.Tiles.{Tile}
 use Rattle.passes.specs.Soundness.{SoundReading, SoundTies, Sound}
 
--- One check. Where its condition does not hold, the call is refused with the case e, whose number is n, and `Left e` says what
--- the refusal leaves; where it holds, the call comes to the rest.
-pub data Checked (n : ℕ) (e : Refusal) (Holds : Type 0) (Left : Refusal → Type 0) (Rest : Type 0) : Type 0 where
-  refused : (Holds → ⊥) → number e ≡ n → Left e → Checked n e Holds Left Rest
-  passed : Holds → Rest → Checked n e Holds Left Rest
+-- One check. Where its condition does not hold, the call is refused with e, whose number is n, and `Left e` says what the refusal
+-- leaves; where it holds, the call comes to the rest.
+pub data CheckedBy {E : Type 0} (number_of : E → ℕ) (n : ℕ) (e : E) (Holds : Type 0) (Left : E → Type 0) (Rest : Type 0) : Type 0 where
+  refused : (Holds → ⊥) → number_of e ≡ n → Left e → CheckedBy number_of n e Holds Left Rest
+  passed : Holds → Rest → CheckedBy number_of n e Holds Left Rest
+
+-- one check of a call on a tile
+abbrev pub Checked : ℕ → Refusal → Type 0 → (Refusal → Type 0) → Type 0 → Type 0
+Checked = CheckedBy number
+
+-- the checks of the first n cells, cell by cell, of which One has those of one cell
+abbrev pub EachChecked : (One : ℕ → Type 0 → Type 0) → ℕ → Type 0 → Type 0
+EachChecked One zero Rest = Rest
+EachChecked One (suc u) Rest = EachChecked One u (One u Rest)
 
 -- ---- the checks of each call; Left says what a refusal leaves, and Rest what acceptance comes to
 
--- start: rows, columns and top in their ranges, and a record for each cell
-abbrev pub StartChecked : (rows columns top : ℕ) → Tile → (Refusal → Type 0) → Type 0 → Type 0
-StartChecked rows columns top t Left Rest = Checked 1 Range (Ranged most_rows rows columns top) Left (Checked 2 FewRecords (rows * columns ≤ length t) Left Rest)
+-- start, over so many records: rows, columns and top in their ranges, and a record for each cell
+abbrev pub StartChecked : (rows columns top records : ℕ) → (Refusal → Type 0) → Type 0 → Type 0
+StartChecked rows columns top records Left Rest = Checked 1 Range (Ranged most_rows rows columns top) Left (Checked 2 FewRecords (rows * columns ≤ records) Left Rest)
 
 -- every other call begins with these, and begin and reopen have no more: a record for each cell, and all of them sound
 abbrev pub TileChecked : Shape → (done : ℕ) → Tile → (Refusal → Type 0) → Type 0 → Type 0

@@ -1,5 +1,5 @@
-pub mod RunsKept
 pub mod Steps
+pub mod Past
 pub mod Samples
 pub mod Surveys
 pub mod OneCell

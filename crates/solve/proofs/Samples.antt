@@ -1,6 +1,5 @@
 -- Samples that are written into a draft, from the contracts of the calls.
-use Rattle.std.proofs.Common.{◌≡◌, ℕ, zero, suc, ◌+◌, ◌*◌, ◌<◌, ◌≤◌, cond, eqb, List, [], ◌∷◌, length, take, set, Ok, Err, Result, sym, refl, ap, ◌∙◌, subst, ap₂, ⊎_elim, arith, below_more}
-use Rattle.std.proofs.lemmas.Nat.{div-add-mod', div_below, mod_below}
+use Rattle.std.proofs.Common.{◌≡◌, ℕ, ◌+◌, ◌*◌, ◌<◌, ◌≤◌, cond, eqb, List, [], ◌∷◌, length, take, set, Ok, Err, Result, sym, refl, ap, ◌∙◌, subst, ap₂, ⊎_elim, arith, below_more}
 use Rattle.std.proofs.lemmas.List.{get_or-take, get_or_past, length-take-le}
 use Rattle.std.proofs.lemmas.Bool.{cond_both, cases_lt, eqb-true, eqb-false}
 use Rattle.limits.specs.declared.refusal.Refusal.{Refusal}
@@ -20,23 +19,24 @@ use Rattle.filter.specs.Calls.{LeavesAll, PutDoes, TieDoes}
 use Rattle.filter.specs.Runs.{put_at, tied_at, History, updated, draft, Lent, Run, GoesOn}
 use Rattle.filter.specs.Laws.{EveryRunKeepsTheLaw}
 use Rattle.filter.proofs.Outcomes.{mapped, followed, surely}
+use Rattle.filter.proofs.Places.{place_of, inside_of}
+use Rattle.filter.proofs.Each.{each_passed, each_refused}
 use Rattle.solve.specs.declared.surveying.Sample.{Sample}
-use Rattle.solve.specs.Solving.{Led}
-use Rattle.solve.specs.Surveying.{At, sample, ties, sampled, SampleChecked, SamplesChecked, Drafted, PutsSample, TiesSample, WritesSample, Surveyed, WritesSamples}
-use Rattle.solve.proofs.RunsKept.{not_both, run_shape, sound_slice}
+use Rattle.solve.specs.Solving.{PastKept, Led}
+use Rattle.solve.specs.Surveying.{At, sample, ties, sampled, SampleChecked, Drafted, PutsSample, TiesSample, WritesSample, Surveyed, WritesSamples}
+use Rattle.filter.proofs.RunsKept.{not_both, run_shape, sound_slice}
 use Rattle.solve.proofs.Steps.{plain, goes}
+use Rattle.solve.proofs.Past.{SameDraft, past_none, past_more, put_past, tie_past}
 
 -- ---- one cell, by its row and column
 
 spot : (s : Shape) (u row column : ℕ) → At s u row column → place s row column ≡ u
-spot s u row column at = ap₂ (λ (a b : ℕ). a * s.columns + b) at.row at.column ∙ div-add-mod' u s.columns
+spot s u row column at = ap₂ (λ (a b : ℕ). a * s.columns + b) at.row at.column ∙ place_of s u
 
 within : (s : Shape) (u row column : ℕ) → At s u row column → u < cells s → Inside s row column
-within s u row column at l =
-    let some : 0 < s.columns = omega (arith, s.wide.0) in
-    (omega (arith, at.row, div_below u s.columns s.rows some l), omega (arith, at.column, mod_below u s.columns some))
+within s u row column at l = let here = inside_of s u l in (omega (arith, at.row, here.0), omega (arith, at.column, here.1))
 
-pub puts : EveryRunKeepsTheLaw → (d : Draft) (t : Tile) (u row column : ℕ) (x : Sample) (answer : Result Draft (Refused Draft)) (t' : Tile) → At d.shape u row column →
+puts : EveryRunKeepsTheLaw → (d : Draft) (t : Tile) (u row column : ℕ) (x : Sample) (answer : Result Draft (Refused Draft)) (t' : Tile) → At d.shape u row column →
     PutDoes d t row column x.reading x.class answer t' →
     GoesOn (draft d) t draft draft (put_at (place d.shape row column) x.reading x.class) answer t' → PutsSample d t u x (plain (λ z. z) answer) t'
 puts law d t u row column x answer t' at does on rule lawful s h whole inside run =
@@ -44,7 +44,7 @@ puts law d t u row column x answer t' at does on rule lawful s h whole inside ru
     (surely (within s u row column here inside) (surely (sound_slice law rule lawful s h (draft d) t run) (surely whole checked)))
   where
     same : d.shape ≡ s
-    same = run_shape rule lawful run
+    same = run_shape law rule lawful run
 
     here : At s u row column
     here = subst (λ (z : Shape). At z u row column) same at
@@ -59,7 +59,18 @@ puts law d t u row column x answer t' at does on rule lawful s h whole inside ru
     end ok = subst (λ (p : ℕ). Run rule s (put_at p x.reading x.class ∷ h) (draft d) (take (cells s) t')) (spot d.shape u row column at)
         (goes draft draft answer d ok (on rule s h (take (cells s) t) (take (cells s) t') run (Lent.all whole)))
 
-pub ties_up : EveryRunKeepsTheLaw → (d : Draft) (t : Tile) (u row column : ℕ) (x : Sample) (answer : Result Draft (Refused Draft)) (t' : Tile) → At d.shape u row column →
+-- what put_sample ensures
+abbrev pub PutMet : Draft → Tile → ℕ → Sample → Result Draft Refusal → Tile → Type 0
+PutMet d t u x answer t' = record { same : SameDraft d answer; past : PastKept (cells d.shape) t t'; does : PutsSample d t u x answer t' }
+
+pub put_met : EveryRunKeepsTheLaw → (d : Draft) (t : Tile) (u row column : ℕ) (x : Sample) (answer : Result Draft (Refused Draft)) (t' : Tile) → At d.shape u row column →
+    PutDoes d t row column x.reading x.class answer t' →
+    GoesOn (draft d) t draft draft (put_at (place d.shape row column) x.reading x.class) answer t' → PutMet d t u x (plain (λ z. z) answer) t'
+put_met law d t u row column x answer t' at does on =
+    let k = put_past d t row column x.reading x.class answer t' does in
+    record { same = k.0; past = k.1; does = puts law d t u row column x answer t' at does on }
+
+ties_up : EveryRunKeepsTheLaw → (d : Draft) (t : Tile) (u row column : ℕ) (x : Sample) (answer : Result Draft (Refused Draft)) (t' : Tile) → At d.shape u row column →
     TieDoes d t row column (ties x) answer t' →
     GoesOn (draft d) t draft draft (tied_at (place d.shape row column) (ties x)) answer t' → TiesSample d t u x (plain (λ z. z) answer) t'
 ties_up law d t u row column x answer t' at does on rule lawful s h whole inside run =
@@ -68,7 +79,7 @@ ties_up law d t u row column x answer t' at does on rule lawful s h whole inside
     (surely (within s u row column here inside) (surely (sound_slice law rule lawful s h (draft d) t run) (surely whole checked))))
   where
     same : d.shape ≡ s
-    same = run_shape rule lawful run
+    same = run_shape law rule lawful run
 
     here : At s u row column
     here = subst (λ (z : Shape). At z u row column) same at
@@ -82,6 +93,17 @@ ties_up law d t u row column x answer t' at does on rule lawful s h whole inside
     end : answer ≡ Ok d → Run rule s (tied_at u (ties x) ∷ h) (draft d) (take (cells s) t')
     end ok = subst (λ (p : ℕ). Run rule s (tied_at p (ties x) ∷ h) (draft d) (take (cells s) t')) (spot d.shape u row column at)
         (goes draft draft answer d ok (on rule s h (take (cells s) t) (take (cells s) t') run (Lent.all whole)))
+
+-- what tie_sample ensures
+abbrev pub TieMet : Draft → Tile → ℕ → Sample → Result Draft Refusal → Tile → Type 0
+TieMet d t u x answer t' = record { same : SameDraft d answer; past : PastKept (cells d.shape) t t'; does : TiesSample d t u x answer t' }
+
+pub tie_met : EveryRunKeepsTheLaw → (d : Draft) (t : Tile) (u row column : ℕ) (x : Sample) (answer : Result Draft (Refused Draft)) (t' : Tile) → At d.shape u row column →
+    TieDoes d t row column (ties x) answer t' →
+    GoesOn (draft d) t draft draft (tied_at (place d.shape row column) (ties x)) answer t' → TieMet d t u x (plain (λ z. z) answer) t'
+tie_met law d t u row column x answer t' at does on =
+    let k = tie_past d t row column (ties x) answer t' does in
+    record { same = k.0; past = k.1; does = ties_up law d t u row column x answer t' at does on }
 
 -- ---- the survey that samples are
 
@@ -116,29 +138,8 @@ more_sampled xs i l = λ j. record {
 abbrev SoundSample : Shape → List Sample → ℕ → Type 0
 SoundSample s xs u = SoundReading s.top (sample xs u).reading (sample xs u).class × SoundTies s u (ties (sample xs u))
 
-pub samples_mapped : (Left Left' : Refusal → Type 0) (Rest Rest' : Type 0) (s : Shape) (xs : List Sample) (n : ℕ) → ((e : Refusal) → Left e → Left' e) → (Rest → Rest') →
-    SamplesChecked s xs n Left Rest → SamplesChecked s xs n Left' Rest'
-samples_mapped Left Left' Rest Rest' s xs zero left rest w = rest w
-samples_mapped Left Left' Rest Rest' s xs (suc u) left rest w =
-    samples_mapped Left Left' (SampleChecked s u (sample xs u) Left Rest) (SampleChecked s u (sample xs u) Left' Rest') s xs u left (mapped left (mapped left rest)) w
-
-all_sound : (Left : Refusal → Type 0) (Rest : Type 0) (s : Shape) (xs : List Sample) (n : ℕ) → ((u : ℕ) → u < n → SoundSample s xs u) → Rest → SamplesChecked s xs n Left Rest
-all_sound Left Rest s xs zero sound rest = rest
-all_sound Left Rest s xs (suc u) sound rest =
-    let here = sound u (omega arith) in
-    all_sound Left (SampleChecked s u (sample xs u) Left Rest) s xs u (λ v l. sound v (omega arith)) (passed here.0 (passed here.1 rest))
-
--- the sample i is the first that is refused
-refused_at : (Left : Refusal → Type 0) (Rest : Type 0) (s : Shape) (xs : List Sample) (n i : ℕ) → i < n → ((u : ℕ) → u < i → SoundSample s xs u) → ((R : Type 0) → SampleChecked s i (sample xs i) Left R) →
-    SamplesChecked s xs n Left Rest
-refused_at Left Rest s xs zero i l sound w = absurd (omega arith)
-refused_at Left Rest s xs (suc u) i l sound w =
-    ⊎_elim
-    (λ (lt : i < u). refused_at Left (SampleChecked s u (sample xs u) Left Rest) s xs u i lt sound w)
-    (λ (le : u ≤ i).
-    let same : i ≡ u = omega arith in
-    all_sound Left (SampleChecked s u (sample xs u) Left Rest) s xs u (λ v m. sound v (omega arith)) (subst (λ (k : ℕ). SampleChecked s k (sample xs k) Left Rest) same (w Rest)))
-    (cases_lt i u)
+one_passes : (Left : Refusal → Type 0) (s : Shape) (xs : List Sample) (u : ℕ) → SoundSample s xs u → (R : Type 0) → R → SampleChecked s u (sample xs u) Left R
+one_passes Left s xs u sound R rest = passed sound.0 (passed sound.1 rest)
 
 -- ---- the loop over the cells
 
@@ -148,8 +149,21 @@ pub record SamplesIn (rule : Rule) (s : Shape) (xs : List Sample) (i : ℕ) (d :
   pub sound : (u : ℕ) → u < i → SoundSample s xs u
 
 -- the invariant of the loop
-abbrev pub SamplesFar : Draft → Tile → List Sample → ℕ → Draft → Tile → Type 0
-SamplesFar d t xs i d' t' = (rule : Rule) → Lawful rule → (s : Shape) → cells s ≤ length t → Run rule s [] (draft d) (take (cells s) t) → SamplesIn rule s xs i d' t'
+pub record SamplesFar (d : Draft) (t : Tile) (xs : List Sample) (i : ℕ) (d' : Draft) (t' : Tile) : Type 0 where
+  pub same : d' ≡ d
+  pub past : PastKept (cells d.shape) t t'
+  pub written : (rule : Rule) → Lawful rule → cells d.shape ≤ length t → Run rule d.shape [] (draft d) (take (cells d.shape) t) → SamplesIn rule d.shape xs i d' t'
+
+pub none_written : (d : Draft) (t : Tile) (xs : List Sample) → SamplesFar d t xs 0 d t
+none_written d t xs = record {
+  same = refl;
+  past = past_none (cells d.shape) t;
+  written = λ rule lawful whole run. record { led = record { history = []; same_survey = λ j. record { reading = λ u. 0; class = λ u. 0; tie = λ u k. no_ties k j }; run = run }; sound = λ u l. absurd (omega arith) };
+}
+
+-- what write_samples ensures
+abbrev pub SamplesMet : Draft → Tile → List Sample → Result Draft Refusal → Tile → Type 0
+SamplesMet d t xs answer t' = record { same : SameDraft d answer; past : PastKept (cells d.shape) t t'; does : WritesSamples d t xs answer t' }
 
 -- one cell more, by the checks that its sample passed
 more : (rule : Rule) (s : Shape) (xs : List Sample) (i : ℕ) (z : Draft) (w : Tile) (z' : Draft) (w' : Tile) → i < length xs → (far : SamplesIn rule s xs i z w) →
@@ -169,31 +183,45 @@ more rule s xs i z w z' w' l far (passed reading (passed tied a)) =
       sound = below_more (SoundSample s xs) i far.sound (reading, tied);
     }
 
--- the cells of the draft are those of the run
-run_cells : (rule : Rule) → Lawful rule → {s : Shape} {h : History} {r : Tile} (d : Draft) (n : ℕ) → n ≡ cells d.shape → Run rule s h (draft d) r → n ≡ cells s
-run_cells rule lawful d n e run = e ∙ ap cells (run_shape rule lawful run)
+-- the writes of one more cell
+module _ (d : Draft) (t : Tile) (xs : List Sample) (n i : ℕ) (z : Draft) (w : Tile) (en : n ≡ cells d.shape) (enough : n ≤ length xs) (inside : i < n) (far : SamplesFar d t xs i z w) where
+  -- by the first draft's shape
+  past_here : (w' : Tile) → PastKept (cells z.shape) w w' → PastKept (cells d.shape) t w'
+  past_here w' k = past_more (cells d.shape) t w w' far.past (subst (λ (v : Draft). PastKept (cells v.shape) w w') far.same k)
 
-pub one_written : (d : Draft) (t : Tile) (xs : List Sample) (n i : ℕ) (z : Draft) (w : Tile) (z' : Draft) (w' : Tile) → n ≡ cells d.shape → n ≤ length xs → length w ≡ length t → i < n →
-    WritesSample z w i (sample xs i) (Ok z') w' → SamplesFar d t xs i z w → SamplesFar d t xs (i + 1) z' w'
-one_written d t xs n i z w z' w' en enough long l write inv rule lawful s whole run =
-    let far = inv rule lawful s whole run in
-    let es : n ≡ cells s = run_cells rule lawful d n en run in
-    more rule s xs i z w z' w' (omega arith) far (write rule lawful s far.led.history (omega arith) (omega arith) far.led.run)
+  pub one_written : (z' : Draft) (w' : Tile) → z' ≡ z → PastKept (cells z.shape) w w' → WritesSample z w i (sample xs i) (Ok z') w' → SamplesFar d t xs (i + 1) z' w'
+  one_written z' w' same past write = record {
+    same = same ∙ far.same;
+    past = past_here w' past;
+    written = λ rule lawful whole run.
+        let s : Shape = d.shape in
+        let k = far.written rule lawful whole run in
+        more rule s xs i z w z' w' (omega arith) k (write rule lawful s k.led.history (omega (arith, far.past.long)) (omega arith) k.led.run);
+  }
 
-pub sample_refused : (d : Draft) (t : Tile) (xs : List Sample) (n i : ℕ) (z : Draft) (w : Tile) (why : Refusal) (w' : Tile) → n ≡ cells d.shape → n ≤ length xs → length w ≡ length t → i < n →
-    WritesSample z w i (sample xs i) (Err why) w' → SamplesFar d t xs i z w → WritesSamples d t xs (Err why) w'
-sample_refused d t xs n i z w why w' en enough long l write inv rule lawful s whole run =
-    let far = inv rule lawful s whole run in
-    let es : n ≡ cells s = run_cells rule lawful d n en run in
-    passed (omega arith)
-    (refused_at (λ e. Err why ≡ Err e) (Surveyed rule s (sampled (take (cells s) xs)) (Err why) (take (cells s) w')) s xs (cells s) i (omega arith) far.sound (λ R.
-    mapped (λ _ k. k) (mapped (λ _ k. k) (λ a. not_both (Err why) a.answered why a.answers refl)) (write rule lawful s far.led.history (omega arith) (omega arith) far.led.run)))
+  pub sample_refused : (why : Refusal) (w' : Tile) → PastKept (cells z.shape) w w' → WritesSample z w i (sample xs i) (Err why) w' → SamplesMet d t xs (Err why) w'
+  sample_refused why w' past write = record {
+    same = tt;
+    past = past_here w' past;
+    does = λ rule lawful whole run.
+        let s : Shape = d.shape in
+        let k = far.written rule lawful whole run in
+        passed (omega arith)
+        (each_refused (λ u. SampleChecked s u (sample xs u) (λ e. Err why ≡ Err e)) (Surveyed rule s (sampled (take (cells s) xs)) (Err why) (take (cells s) w')) (cells s) i (omega arith)
+        (λ u lt. one_passes (λ e. Err why ≡ Err e) s xs u (k.sound u lt)) (λ R.
+        mapped (λ _ y. y) (mapped (λ _ y. y) (λ a. not_both (Err why) a.answered why a.answers refl)) (write rule lawful s k.led.history (omega (arith, far.past.long)) (omega arith) k.led.run)));
+  }
 
-pub few_samples : (d : Draft) (t : Tile) (xs : List Sample) (n : ℕ) → n ≡ cells d.shape → length xs < n → WritesSamples d t xs (Err FewRecords) t
-few_samples d t xs n en few rule lawful s whole run = let es : n ≡ cells s = run_cells rule lawful d n en run in refused (λ enough. omega arith) refl refl
+pub few_samples : (d : Draft) (t : Tile) (xs : List Sample) (n : ℕ) → n ≡ cells d.shape → length xs < n → SamplesMet d t xs (Err FewRecords) t
+few_samples d t xs n en few = record { same = tt; past = past_none (cells d.shape) t; does = λ rule lawful whole run. refused (λ enough. omega arith) refl refl }
 
-pub all_written : (d : Draft) (t : Tile) (xs : List Sample) (n : ℕ) (z : Draft) (w : Tile) → n ≡ cells d.shape → n ≤ length xs → SamplesFar d t xs n z w → WritesSamples d t xs (Ok z) w
-all_written d t xs n z w en enough inv rule lawful s whole run =
-    let es : n ≡ cells s = run_cells rule lawful d n en run in
-    let far : SamplesIn rule s xs (cells s) z w = subst (λ (k : ℕ). SamplesIn rule s xs k z w) es (inv rule lawful s whole run) in
-    passed (omega arith) (all_sound (λ e. Ok z ≡ Err e) (Surveyed rule s (sampled (take (cells s) xs)) (Ok z) (take (cells s) w)) s xs (cells s) far.sound (record { answered = z; answers = refl; led = far.led }))
+pub all_written : (d : Draft) (t : Tile) (xs : List Sample) (n : ℕ) (z : Draft) (w : Tile) → n ≡ cells d.shape → n ≤ length xs → SamplesFar d t xs n z w → SamplesMet d t xs (Ok z) w
+all_written d t xs n z w en enough far = record {
+  same = far.same;
+  past = far.past;
+  does = λ rule lawful whole run.
+      let s : Shape = d.shape in
+      let k : SamplesIn rule s xs (cells s) z w = subst (λ (m : ℕ). SamplesIn rule s xs m z w) en (far.written rule lawful whole run) in
+      passed (omega arith) (each_passed (λ u. SampleChecked s u (sample xs u) (λ e. Ok z ≡ Err e)) (Surveyed rule s (sampled (take (cells s) xs)) (Ok z) (take (cells s) w)) (cells s)
+      (λ u lt. one_passes (λ e. Ok z ≡ Err e) s xs u (k.sound u lt)) (record { answered = z; answers = refl; led = k.led }));
+}

@@ -1,5 +1,5 @@
 -- Samples, the survey that they are, and what surveying and solving them answers and leaves.
-use Rattle.std.specs.Prelude.{◌≡◌, ℕ, zero, suc, ◌/◌, ◌%◌, ◌<◌, ◌≤◌, List, [], ◌∷◌, length, take, Ok, Err, Result, slice_index_or}
+use Rattle.std.specs.Prelude.{◌≡◌, ℕ, ◌/◌, ◌%◌, ◌<◌, ◌≤◌, List, [], ◌∷◌, length, take, Ok, Err, Result, slice_index_or}
 use Rattle.limits.specs.Limits.{most_rows}
 use Rattle.limits.specs.declared.refusal.Refusal.{Refusal}
 use Rattle.limits.specs.declared.refusal.Refusal.TheVariants.{FewRecords, Reading, Tie}
@@ -12,7 +12,7 @@ use Rattle.passes.specs.Soundness.{SoundReading, SoundTies}
 use Rattle.passes.specs.Writing.{weights}
 use Rattle.filter.specs.declared.states.Draft.{Draft}
 use Rattle.filter.specs.declared.states.Level.{Level}
-use Rattle.filter.specs.Checks.{Checked, StartChecked}
+use Rattle.filter.specs.Checks.{Checked, EachChecked, StartChecked}
 use Rattle.filter.specs.Runs.{put_at, tied_at, History, draft, Run}
 use Rattle.solve.specs.declared.surveying.Sample.{Sample}
 use Rattle.solve.specs.Solving.{RefusedAs, RoundsChecked, Solved, Led}
@@ -37,8 +37,7 @@ SampleChecked s u x Left Rest = Checked 5 Reading (SoundReading s.top x.reading 
 
 -- those of the samples of the first n cells, cell by cell
 abbrev pub SamplesChecked : Shape → List Sample → ℕ → (Refusal → Type 0) → Type 0 → Type 0
-SamplesChecked s xs zero Left Rest = Rest
-SamplesChecked s xs (suc u) Left Rest = SamplesChecked s xs u Left (SampleChecked s u (sample xs u) Left Rest)
+SamplesChecked s xs n Left Rest = EachChecked (λ u. SampleChecked s u (sample xs u) Left) n Rest
 
 -- ---- writing samples into a draft
 
@@ -79,7 +78,7 @@ pub record Surveyed (rule : Rule) (s : Shape) (y : Survey) (answer : Result Draf
 
 -- the samples of all cells, into a draft that was just started
 abbrev pub WritesSamples : Draft → Tile → List Sample → Result Draft Refusal → Tile → Type 0
-WritesSamples d t xs answer t' = (rule : Rule) → Lawful rule → (s : Shape) → cells s ≤ length t → Run rule s [] (draft d) (take (cells s) t) →
+WritesSamples d t xs answer t' = let s : Shape = d.shape in (rule : Rule) → Lawful rule → cells s ≤ length t → Run rule s [] (draft d) (take (cells s) t) →
     Checked 2 FewRecords (cells s ≤ length xs) (λ e. answer ≡ Err e)
     (SamplesChecked s xs (cells s) (λ e. answer ≡ Err e) (Surveyed rule s (sampled (take (cells s) xs)) answer (take (cells s) t')))
 
@@ -97,4 +96,4 @@ pub record SampledAndSolved (rule : Rule) (rows columns top : ℕ) (xs : List Sa
 
 -- after the checks of start, whose refusals leave the tile as it was
 abbrev pub SamplesDo : Rule → (rows columns top : ℕ) → List Sample → Tile → (entries : ℕ) → Result Level Refusal → Tile → Type 0
-SamplesDo rule rows columns top xs t entries answer t' = StartChecked rows columns top t (RefusedAs t answer t') (SampledAndSolved rule rows columns top xs entries answer t')
+SamplesDo rule rows columns top xs t entries answer t' = StartChecked rows columns top (length t) (RefusedAs t answer t') (SampledAndSolved rule rows columns top xs entries answer t')

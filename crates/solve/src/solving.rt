@@ -1,7 +1,9 @@
 // From a draft to its level: begin, the rounds due, and finish.
 ghost use Rattle.std.specs.Prelude.{length};
 ghost use Rattle.tile.specs.Halving.{RoundsDue};
-ghost use Rattle.solve.specs.Solving.{SolveDoes, BeginsRounds, RoundsOnce, RoundsAll, FinishesRounds};
+ghost use Rattle.filter.specs.Calls.{SurveyKept, KeptIfRefused};
+ghost use Rattle.filter.specs.Laws.{EveryRunKeepsTheLaw};
+ghost use Rattle.solve.specs.Solving.{SolveDoes, SolvesRuns, BeginsRounds, RoundsOnce, RoundsAhead, RoundsAll, RoundsBehind, FinishesRounds};
 
 use filter::{Draft, Level, Rounding};
 use flow::CutMaker;
@@ -18,7 +20,8 @@ fn due_rounds(draft: &Draft) -> u8
 
 // Closes the draft.
 fn begin_rounds(draft: Draft, tile: &[Cell]) -> Result<Rounding, Refusal>
-    ensures { BeginsRounds draft tile.now result }
+    ensures does { BeginsRounds draft tile.now result }
+    ensures law { EveryRunKeepsTheLaw }
 {
     Ok(draft.begin(tile)?)
 }
@@ -32,12 +35,14 @@ fn do_round<P: PriceRule, M: CutMaker>(
     maker: &M,
     entries: &mut [M::Entry],
 ) -> Result<Rounding, Refusal>
-    ensures { RoundsOnce (P.PriceRule.rule rule.now) rounding tile.old (length entries.old) result tile.new }
+    ensures kept { SurveyKept rounding.shape tile.old tile.new }
+    ensures workspace { KeptIfRefused result entries.old entries.new }
+    ensures does { RoundsOnce (P.PriceRule.rule rule.now) rounding tile.old (length entries.old) result tile.new }
 {
     Ok(rounding.round(tile, rule, maker, entries)?.state)
 }
 
-// Does the rounds due.
+// Does the rounds due, from a state with none done.
 fn do_rounds<P: PriceRule, M: CutMaker>(
     rounding: Rounding,
     due: u8,
@@ -46,7 +51,10 @@ fn do_rounds<P: PriceRule, M: CutMaker>(
     maker: &M,
     entries: &mut [M::Entry],
 ) -> Result<Rounding, Refusal>
-    ensures { RoundsAll (P.PriceRule.rule rule.now) rounding tile.old due (length entries.old) result tile.new }
+    requires { RoundsAhead rounding tile.old due }
+    ensures kept { SurveyKept rounding.shape tile.old tile.new }
+    ensures workspace { KeptIfRefused result entries.old entries.new }
+    ensures does { RoundsAll (P.PriceRule.rule rule.now) rounding tile.old due (length entries.old) result tile.new }
 {
     let mut state = rounding;
     for _round in 0..due {
@@ -55,16 +63,17 @@ fn do_rounds<P: PriceRule, M: CutMaker>(
     Ok(state)
 }
 
-// Ends the rounds.
+// Ends the rounds, once they are over.
 fn finish_rounds(rounding: Rounding, tile: &[Cell]) -> Result<Level, Refusal>
+    requires { RoundsBehind rounding tile.now }
     ensures { FinishesRounds rounding tile.now result }
 {
     Ok(rounding.finish(tile)?)
 }
 
 // Solves a draft: where a tile has been drafted by accepted calls, its low ends become the lowest cheapest grid of what the
-// calls wrote. It is refused only for too few records or entries and for a rule that does not reach the tile's top, and
-// then leaves the tile as it was.
+// calls wrote. Whatever led to the draft, it is refused only for too few records or corrupt ones, for too few entries and for a
+// rule that does not reach the tile's top, and then leaves the tile and the workspace as they were.
 pub fn solve<P: PriceRule, M: CutMaker>(
     draft: Draft,
     tile: &mut [Cell],
@@ -72,7 +81,10 @@ pub fn solve<P: PriceRule, M: CutMaker>(
     maker: &M,
     entries: &mut [M::Entry],
 ) -> Result<Level, Refusal>
-    ensures { SolveDoes (P.PriceRule.rule rule.now) draft tile.old (length entries.old) result tile.new }
+    ensures kept { SurveyKept draft.shape tile.old tile.new }
+    ensures workspace { KeptIfRefused result entries.old entries.new }
+    ensures does { SolveDoes (P.PriceRule.rule rule.now) draft tile.old (length entries.old) result tile.new }
+    ensures runs { SolvesRuns (P.PriceRule.rule rule.now) draft tile.old (length entries.old) result tile.new }
 {
     let due = due_rounds(&draft);
     let rounding = begin_rounds(draft, tile)?;

@@ -2,8 +2,10 @@
 //
 // Each put and each tie checks the whole tile, so the time grows with the square of the number of cells: this is a small
 // client of the calls, for small tiles.
-ghost use Rattle.std.specs.Prelude.{◌≡◌, length};
+ghost use Rattle.std.specs.Prelude.{◌≡◌, ◌*◌, length, IfOk};
 ghost use Rattle.tile.specs.Shapes.{cells};
+ghost use Rattle.filter.specs.Calls.{KeptIfRefused};
+ghost use Rattle.solve.specs.Solving.{PastKept};
 ghost use Rattle.solve.specs.Surveying.{At, PutsSample, TiesSample, WritesSample, WritesSamples, SamplesDo};
 
 use crate::solving::solve;
@@ -45,7 +47,9 @@ fn put_sample(
     cell: usize,
     sample: Sample,
 ) -> Result<Draft, Refusal>
-    ensures { PutsSample draft tile.old cell sample result tile.new }
+    ensures same { IfOk result (λ z. z ≡ draft) }
+    ensures past { PastKept (cells draft.shape) tile.old tile.new }
+    ensures does { PutsSample draft tile.old cell sample result tile.new }
 {
     let (row, column) = position(&draft, cell);
     Ok(draft.put(tile, row, column, sample.reading, sample.class)?)
@@ -58,7 +62,9 @@ fn tie_sample(
     cell: usize,
     sample: Sample,
 ) -> Result<Draft, Refusal>
-    ensures { TiesSample draft tile.old cell sample result tile.new }
+    ensures same { IfOk result (λ z. z ≡ draft) }
+    ensures past { PastKept (cells draft.shape) tile.old tile.new }
+    ensures does { TiesSample draft tile.old cell sample result tile.new }
 {
     let (row, column) = position(&draft, cell);
     Ok(draft.tie(tile, row, column, sample.right, sample.down)?)
@@ -71,7 +77,9 @@ fn write_sample(
     cell: usize,
     sample: Sample,
 ) -> Result<Draft, Refusal>
-    ensures { WritesSample draft tile.old cell sample result tile.new }
+    ensures same { IfOk result (λ z. z ≡ draft) }
+    ensures past { PastKept (cells draft.shape) tile.old tile.new }
+    ensures does { WritesSample draft tile.old cell sample result tile.new }
 {
     let draft = put_sample(draft, tile, cell, sample)?;
     tie_sample(draft, tile, cell, sample)
@@ -79,7 +87,9 @@ fn write_sample(
 
 // Writes a sample into each cell.
 fn write_samples(draft: Draft, tile: &mut [Cell], samples: &[Sample]) -> Result<Draft, Refusal>
-    ensures { WritesSamples draft tile.old samples.now result tile.new }
+    ensures same { IfOk result (λ z. z ≡ draft) }
+    ensures past { PastKept (cells draft.shape) tile.old tile.new }
+    ensures does { WritesSamples draft tile.old samples.now result tile.new }
 {
     let cells = count_cells(&draft);
     if samples.len() < cells {
@@ -93,8 +103,8 @@ fn write_samples(draft: Draft, tile: &mut [Cell], samples: &[Sample]) -> Result<
 }
 
 // Solves the tile that the samples are, one for each cell, row by row; what comes after them is not read. The low ends of
-// the tile become the lowest cheapest grid of the samples. A refusal of start leaves the tile as it was; of a later one
-// only the case is promised, and not what the tile holds.
+// the tile become the lowest cheapest grid of the samples. A refusal of start leaves the tile as it was; after a later one the
+// cells may hold anything. Records past the cells are kept in any case, and the workspace is as it was after every refusal.
 pub fn solve_samples<P: PriceRule, M: CutMaker>(
     rows: usize,
     columns: usize,
@@ -105,7 +115,9 @@ pub fn solve_samples<P: PriceRule, M: CutMaker>(
     maker: &M,
     entries: &mut [M::Entry],
 ) -> Result<Level, Refusal>
-    ensures { SamplesDo (P.PriceRule.rule rule.now) rows columns top samples.now tile.old (length entries.old) result tile.new }
+    ensures past { PastKept (rows * columns) tile.old tile.new }
+    ensures workspace { KeptIfRefused result entries.old entries.new }
+    ensures does { SamplesDo (P.PriceRule.rule rule.now) rows columns top samples.now tile.old (length entries.old) result tile.new }
 {
     let draft = start(rows, columns, top, tile)?;
     let draft = write_samples(draft, tile, samples)?;

@@ -16,7 +16,7 @@ half_above b = from_to (middle b.low b.high + 1) b.high
 
 -- the half that the height h belongs to: low..middle for a height up to the middle, else middle + 1..high
 abbrev pub half_toward : Bracket → ℕ → Bracket
-half_toward b h = let m = middle b.low b.high in cond (nat_le h m) (from_to b.low m) (from_to (m + 1) b.high)
+half_toward b h = cond (nat_le h (middle b.low b.high)) (half_below b) (half_above b)
 
 -- the bracket that holds the height h after so many halvings of 0..top
 abbrev pub halving : ℕ → ℕ → ℕ → Bracket

@@ -21,8 +21,8 @@ fn low_end(cell: &Cell) -> u16
 // The grid of heights that records hold: each cell's low end. `HeightList` is the same over numbers; one implementation for
 // both, over a trait of what has a height, would be longer than the two.
 #[derive(Clone, Copy)]
-pub struct LowEnds<'a> {
-    pub tile: &'a [Cell],
+struct LowEnds<'a> {
+    tile: &'a [Cell],
 }
 
 impl<'a> HeightGrid for LowEnds<'a> {

@@ -1,8 +1,9 @@
 // The calls while rounds are done.
-ghost use Rattle.std.specs.Prelude.{◌≡◌, ◌+◌, ◌<◌, ◌≤◌, length};
+ghost use Rattle.std.specs.Prelude.{◌≡◌, ◌+◌, ◌<◌, ◌≤◌, length, IfOk};
 ghost use Rattle.limits.specs.Limits.{most_rows, most_rounds};
 ghost use Rattle.tile.specs.Shapes.{cells};
 ghost use Rattle.tile.specs.Tiles.{cell};
+ghost use Rattle.passes.specs.Soundness.{Sound};
 ghost use Rattle.passes.specs.Writing.{reset, rewritten};
 ghost use Rattle.passes.specs.Rounds.{charged, Chargeable, Narrowable};
 ghost use Rattle.filter.specs.Checks.{TileChecked};
@@ -55,8 +56,8 @@ fn one_more(rounding: Rounding) -> Rounded
 }
 
 impl Rounding {
-    // Does one round under a price rule, by a cut maker with its workspace, and answers the rounds done.
-    // The workspace is free after an accepted round.
+    // Does one round under a price rule, by a cut maker with its workspace, and answers the rounds done. After an accepted
+    // round the workspace is free, and flows and ranks are free within what the maker may leave.
     pub fn round<P: PriceRule, M: CutMaker>(
         self,
         tile: &mut [Cell],
@@ -67,6 +68,7 @@ impl Rounding {
         ensures does { RoundDoes (P.PriceRule.rule rule.now) (M.CutMaker.leaves maker.now) self tile.old (length entries.old) result tile.new }
         ensures smallest { MarksSmallest (P.PriceRule.rule rule.now) self.shape tile.old result tile.new }
         ensures kept { SurveyKept self.shape tile.old tile.new }
+        ensures sound { IfOk result (λ a. Sound a.state.shape a.state.done tile.new) }
         ensures workspace { KeptIfRefused result entries.old entries.new }
         ensures goes_on { GoesOnUnder (P.PriceRule.rule rule.now) (rounding self) tile.old rounding (λ a. rounding a.state) rounded result tile.new }
         ensures law { EveryRunKeepsTheLaw }

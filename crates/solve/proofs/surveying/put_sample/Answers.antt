@@ -1,8 +1,7 @@
 use Rattle.std.proofs.Common.{Ok, Err, Result}
 use Rattle.limits.specs.declared.refusal.Refusal.{Refusal}
 use Rattle.filter.specs.declared.states.Draft.{Draft}
-use Rattle.solve.specs.Surveying.{PutsSample}
-use Rattle.solve.proofs.Samples.{puts}
+use Rattle.solve.proofs.Samples.{PutMet, put_met}
 use Rattle.solve.proofs.Steps.{carried}
 use Rattle.solve.proofs.surveying.put_sample.Goals as goal
 
@@ -10,10 +9,10 @@ pub returns-in_err-put : goal.returns-in_err-put
 returns-in_err-put c =
     let k = c.in_err-put.ensures in
     let refused = c.in_err-put.field-0.0 in
-    carried (λ (a : Result Draft Refusal). PutsSample c.args.draft c.args.tile.now c.args.cell c.args.sample a c.put.new.tile) c.from_residual.result refused.why c.from_residual.ensures.1
-    (puts k.law c.args.draft c.args.tile.now c.args.cell c.position-row.result.0 c.position-row.result.1 c.args.sample (Err refused) _ c.position-row.ensures k.does k.goes_on)
+    carried (λ (a : Result Draft Refusal). PutMet c.args.draft c.args.tile.now c.args.cell c.args.sample a c.put.new.tile) c.from_residual.result refused.why c.from_residual.ensures.1
+    (put_met k.law c.args.draft c.args.tile.now c.args.cell c.position-row.result.0 c.position-row.result.1 c.args.sample (Err refused) _ c.position-row.ensures k.does k.goes_on)
 
 pub returns : goal.returns
 returns c =
     let k = c.in_ok-put.ensures in
-    puts k.law c.args.draft c.args.tile.now c.args.cell c.position-row.result.0 c.position-row.result.1 c.args.sample (Ok c.in_ok-put.field-0) _ c.position-row.ensures k.does k.goes_on
+    put_met k.law c.args.draft c.args.tile.now c.args.cell c.position-row.result.0 c.position-row.result.1 c.args.sample (Ok c.in_ok-put.field-0) _ c.position-row.ensures k.does k.goes_on

@@ -9,7 +9,6 @@ use Rattle.tile.specs.Tiles.{Tile, blank}
 use Rattle.passes.specs.Soundness.{Sound, SoundCell}
 use Rattle.filter.specs.Runs.{History, State, shape_of, done_of, Lent, Run}
 use Rattle.filter.specs.Laws.{EveryRunKeepsTheLaw}
-use Rattle.filter.proofs.Keeps.{every_run}
 
 -- ---- checks
 
@@ -20,8 +19,8 @@ not_both answer x e p q = let z : ◌≡◌ {A = ℕ} 0 1 = cc in absurd (omega 
 -- ---- runs
 
 -- the state of a run has the run's shape
-pub run_shape : (rule : Rule) → Lawful rule → {s : Shape} {h : History} {x : State} {r : Tile} → Run rule s h x r → shape_of x ≡ s
-run_shape rule lawful {s} {h} {x} {r} run = (every_run rule lawful s h x r run).shape_stays
+pub run_shape : EveryRunKeepsTheLaw → (rule : Rule) → Lawful rule → {s : Shape} {h : History} {x : State} {r : Tile} → Run rule s h x r → shape_of x ≡ s
+run_shape law rule lawful {s} {h} {x} {r} run = (law rule lawful s h x r run).shape_stays
 
 -- the records of a run are sound where they begin a slice
 pub sound_slice : EveryRunKeepsTheLaw → (rule : Rule) → Lawful rule → (s : Shape) (h : History) (x : State) (t : Tile) → Run rule s h x (take (cells s) t) → Sound s (done_of x) t

@@ -1,0 +1,9 @@
+pub mod Entries
+pub mod Sections
+pub mod Wholes
+pub mod Calls
+pub mod Fills
+pub mod Found
+pub mod Fronts
+pub mod Layouts
+pub mod Accepting

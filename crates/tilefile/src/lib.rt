@@ -1,0 +1,16 @@
+// Tile files: a draft as bytes.
+#![tactic(auto)]
+
+mod contents;
+pub mod fault;
+mod laying;
+pub mod letter;
+mod reader;
+mod reading;
+#[cfg(test)]
+mod tests;
+
+pub use contents::Contents;
+pub use fault::{Fault, Flaw, Section};
+pub use letter::Letter;
+pub use reading::read_tile;

@@ -1,0 +1,62 @@
+-- From what checking a file answers to what solving it does.
+use Rattle.std.proofs.Common.{◌≡◌, ℕ, ◌≤◌, List, length, Ok, Err, Result, refl, sym, ap, ◌∙◌, subst, arith}
+use Rattle.limits.specs.declared.refusal.Refusal.{Refusal}
+use Rattle.limits.specs.declared.refusal.Refusal.TheVariants.{FewEntries}
+use Rattle.tile.specs.declared.shape.Shape.{Shape}
+use Rattle.tile.specs.Shapes.{cells}
+use Rattle.tile.specs.Tiles.{Tile, Survey}
+use Rattle.filter.specs.Checks.{Checked, passed}
+use Rattle.filter.proofs.Outcomes.{mapped, either, none_found}
+use Rattle.solve.specs.Solving.{PastKept}
+use Rattle.tilefile.specs.declared.contents.Contents.{Contents}
+use Rattle.tilefile.specs.declared.fault.Fault.{Fault}
+use Rattle.tilefile.specs.Letters.{letter_rule}
+use Rattle.tilefile.specs.Contents.{Says, CheckDoes, contents_survey}
+use Rattle.tilefile.proofs.Found.{file_mapped, said_filed}
+use Rattle.report.specs.declared.refusing.FileRefusal.{FileRefusal}
+use Rattle.report.specs.declared.refusing.FileRefusal.TheVariants.{File, Call}
+use Rattle.report.specs.declared.solving.Solution.{Solution}
+use Rattle.report.specs.Solving.{SolvedAs, FileSolved, SolveFileDoes}
+
+-- what a file that was checked comes to
+abbrev pub Outcome : List ℕ → Tile → ℕ → Result Solution FileRefusal → Tile → Shape → Type 0
+Outcome f t n answer t' s = Checked 7 FewEntries (cells s ≤ n) (λ e. (answer ≡ Err (Call e)) × (t' ≡ t)) (FileSolved s f t answer t')
+
+-- a fault
+pub file_faulty : (f : List ℕ) (t : Tile) (n : ℕ) (why : Fault) (answer : Result Solution FileRefusal) → answer ≡ Err (File why) → CheckDoes f (length t) (Err why) → SolveFileDoes f t n answer t
+file_faulty f t n why answer same w = file_mapped (λ s. ⊥) (Outcome f t n answer t) f (length t) left (λ s z. absurd z) w
+  where
+    left : (e : Fault) → ◌≡◌ {A = Result Contents Fault} (Err why) (Err e) → (answer ≡ Err (File e)) × (t ≡ t)
+    left e z = let here : why ≡ e = cc z in (same ∙ ap (λ (k : Fault). Err (File k)) here, refl)
+
+-- too few entries of workspace
+pub file_cramped : (f : List ℕ) (t : Tile) (n : ℕ) (x : Contents) (why : Refusal) (answer : Result Solution FileRefusal) → answer ≡ Err (Call why) →
+    Checked 7 FewEntries (cells x.shape ≤ n) (λ e. ◌≡◌ {A = Result (Unit {0}) Refusal} (Err why) (Err e)) (◌≡◌ {A = Result (Unit {0}) Refusal} (Err why) (Ok tt)) → CheckDoes f (length t) (Ok x) → SolveFileDoes f t n answer t
+file_cramped f t n x why answer same room w =
+    file_mapped (λ s. Says s f x) (Outcome f t n answer t) f (length t) (λ e z. none_found e z)
+    (λ s says. subst (λ (z : Shape). Outcome f t n answer t z) says.shape (mapped left (λ z. none_found _ (sym z)) room)) w
+  where
+    left : (e : Refusal) → ◌≡◌ {A = Result (Unit {0}) Refusal} (Err why) (Err e) → (answer ≡ Err (Call e)) × (t ≡ t)
+    left e z = let here : why ≡ e = cc z in (same ∙ ap (λ (k : Refusal). Err (Call k)) here, refl)
+
+-- enough of them
+pub room_found : (n m : ℕ) → Checked 7 FewEntries (m ≤ n) (λ e. ◌≡◌ {A = Result (Unit {0}) Refusal} (Ok tt) (Err e)) (◌≡◌ {A = Result (Unit {0}) Refusal} (Ok tt) (Ok tt)) → m ≤ n
+room_found n m room = either (λ e z. none_found e z) (λ h _. h) room
+
+-- a solution
+pub file_solved : (f : List ℕ) (t : Tile) (n : ℕ) (x : Contents) (solution : Solution) (t' : Tile) → cells x.shape ≤ n → CheckDoes f (length t) (Ok x) →
+    SolvedAs (letter_rule x.letter x.shape.top) x.shape (contents_survey x) t' solution → PastKept (cells x.shape) t t' → SolveFileDoes f t n (Ok solution) t'
+file_solved f t n x solution t' room w solved kept = file_mapped (λ s. Says s f x) (Outcome f t n (Ok solution) t') f (length t) (λ e z. none_found e z) end w
+  where
+    end : (s : Shape) → Says s f x → Outcome f t n (Ok solution) t' s
+    end s says =
+        let same : cells x.shape ≡ cells s = ap cells says.shape in
+        passed (omega arith) (record {
+          solution = solution;
+          answers = refl;
+          letter = x.letter;
+          names = says.names;
+          solved = subst (λ (y : Survey). SolvedAs (letter_rule x.letter s.top) s y t' solution) (said_filed s f x says)
+              (subst (λ (z : Shape). SolvedAs (letter_rule x.letter z.top) z (contents_survey x) t' solution) says.shape solved);
+          kept = subst (λ (z : Shape). PastKept (cells z) t t') says.shape kept;
+        })

@@ -1,0 +1,4 @@
+pub mod Solutions
+pub mod Filed
+pub mod Texts
+pub mod Printed

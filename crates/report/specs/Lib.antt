@@ -1,0 +1,4 @@
+pub mod Refusing
+pub mod Solving
+pub mod Printing
+pub mod Answering

@@ -1,0 +1,133 @@
+// Solving a tile file: from its bytes to the lowest cheapest grid.
+ghost use Rattle.std.specs.Prelude.{◌≡◌, ◌≤◌, length};
+ghost use Rattle.limits.specs.declared.refusal.Refusal.TheVariants.{FewEntries};
+ghost use Rattle.tile.specs.Halving.{RoundsDue};
+ghost use Rattle.filter.specs.Checks.{Checked};
+ghost use Rattle.filter.specs.Calls.{KeptIfRefused};
+ghost use Rattle.price.specs.Rules.{ruled};
+ghost use Rattle.tile.specs.Shapes.{cells};
+ghost use Rattle.tilefile.specs.Letters.{letter_rule};
+ghost use Rattle.tilefile.specs.Contents.{contents_survey};
+ghost use Rattle.solve.specs.Solving.{PastKept};
+ghost use Rattle.report.specs.Solving.{SolvedAs, SolveFileDoes};
+
+use crate::refusing::FileRefusal;
+use flow::CutMaker;
+use price::absolute::AbsoluteCurve;
+use price::leaning::LeaningCurve;
+use price::squared::SquaredCurve;
+use price::{Curve, CurveRule, PriceRule};
+use solve::solve;
+use tile::bracket::rounds_due;
+use tile::{Cell, Refusal, Shape};
+use tilefile::{Contents, Letter};
+
+// What solving a file came to. The heights are the low ends of the records.
+#[derive(Clone, Copy, PartialEq, Eq, Debug)]
+pub struct Solution {
+    pub rows: usize,
+    pub columns: usize,
+    pub top: u16,
+    // How many rounds were done.
+    pub rounds: u8,
+    pub energy: u64,
+}
+
+// Is there an entry of workspace for each cell?
+fn check_room(shape: Shape, entries: usize) -> Result<(), Refusal>
+    ensures { Checked 7 FewEntries (cells shape ≤ entries) (λ e. result ≡ Err e) (result ≡ Ok tt) }
+{
+    if entries < shape.cells() {
+        return Err(Refusal::FewEntries);
+    }
+    Ok(())
+}
+
+// What is told of a tile of this shape whose heights cost so much.
+fn solution_of(shape: Shape, energy: u64) -> Solution
+    ensures rows { result.rows ≡ shape.rows }
+    ensures columns { result.columns ≡ shape.columns }
+    ensures top { result.top ≡ shape.top }
+    ensures rounds { RoundsDue shape.top result.rounds }
+    ensures energy { result.energy ≡ energy }
+{
+    Solution {
+        rows: shape.rows(),
+        columns: shape.columns(),
+        top: shape.top(),
+        rounds: rounds_due(shape.top()),
+        energy,
+    }
+}
+
+// Solves what a file says under a rule, where records and workspace suffice and the rule is made for the top.
+fn solve_contents<P: PriceRule, M: CutMaker>(
+    contents: &Contents,
+    rule: &P,
+    tile: &mut [Cell],
+    maker: &M,
+    entries: &mut [M::Entry],
+) -> Solution
+    requires records { cells contents.now.shape ≤ length tile.old }
+    requires room { cells contents.now.shape ≤ length entries.old }
+    requires reach { (P.PriceRule.rule rule.now).greatest ≡ contents.now.shape.top }
+    ensures solved { SolvedAs (P.PriceRule.rule rule.now) contents.now.shape (contents_survey contents.now) tile.new result }
+    ensures kept { PastKept (cells contents.now.shape) tile.old tile.new }
+{
+    let draft = contents.fill(tile).unwrap();
+    let level = solve(draft, tile, rule, maker, entries).unwrap();
+    let energy = level.cost(tile, rule).unwrap();
+    solution_of(contents.shape(), energy)
+}
+
+// The same under the rule of a curve.
+fn solve_under<C: Curve, M: CutMaker>(
+    contents: &Contents,
+    tile: &mut [Cell],
+    maker: &M,
+    entries: &mut [M::Entry],
+) -> Solution
+    requires records { cells contents.now.shape ≤ length tile.old }
+    requires room { cells contents.now.shape ≤ length entries.old }
+    ensures solved { SolvedAs (ruled C.price contents.now.shape.top) contents.now.shape (contents_survey contents.now) tile.new result }
+    ensures kept { PastKept (cells contents.now.shape) tile.old tile.new }
+{
+    let rule = CurveRule::<C>::new(contents.shape().top()).unwrap();
+    solve_contents(contents, &rule, tile, maker, entries)
+}
+
+// The same under the rule of the file's letter.
+fn solve_by_letter<M: CutMaker>(
+    contents: &Contents,
+    tile: &mut [Cell],
+    maker: &M,
+    entries: &mut [M::Entry],
+) -> Solution
+    requires records { cells contents.now.shape ≤ length tile.old }
+    requires room { cells contents.now.shape ≤ length entries.old }
+    ensures solved { SolvedAs (letter_rule contents.now.letter contents.now.shape.top) contents.now.shape (contents_survey contents.now) tile.new result }
+    ensures kept { PastKept (cells contents.now.shape) tile.old tile.new }
+{
+    // The letter picks the type of the rule.
+    match contents.letter() {
+        Letter::Absolute => solve_under::<AbsoluteCurve, M>(contents, tile, maker, entries),
+        Letter::Squared => solve_under::<SquaredCurve, M>(contents, tile, maker, entries),
+        Letter::Leaning => solve_under::<LeaningCurve, M>(contents, tile, maker, entries),
+    }
+}
+
+// Solves a tile file: reads it into the records, and makes their low ends the lowest cheapest grid of what the file says, under the
+// rule of its letter. It is refused for a fault of the file, and for fewer entries of workspace than the tile has cells.
+pub fn solve_file<M: CutMaker>(
+    bytes: &[u8],
+    tile: &mut [Cell],
+    maker: &M,
+    entries: &mut [M::Entry],
+) -> Result<Solution, FileRefusal>
+    ensures does { SolveFileDoes bytes.now tile.old (length entries.old) result tile.new }
+    ensures workspace { KeptIfRefused result entries.old entries.new }
+{
+    let contents = Contents::check(bytes, tile.len())?;
+    check_room(contents.shape(), entries.len())?;
+    Ok(solve_by_letter(&contents, tile, maker, entries))
+}

@@ -2,6 +2,7 @@
 use Rattle.std.proofs.Common.{◌≡◌, ℕ, Ok, Err, Result, IfOk, sym, refl, subst, arith}
 use Rattle.limits.specs.Limits.{most_rows}
 use Rattle.limits.specs.declared.refusal.Refusal.{Refusal}
+use Rattle.limits.proofs.Outcomes.{mapped, either}
 use Rattle.price.specs.Rules.{Rule}
 use Rattle.tile.specs.declared.shape.Shape.{Shape}
 use Rattle.tile.specs.declared.side.Side.{Side}
@@ -19,7 +20,6 @@ use Rattle.filter.specs.Calls.{RoundedBy, StartDoes, PutDoes, TieDoes, BeginDoes
 use Rattle.filter.specs.Runs.{Call, Run, Begins, GoesOn, GoesOnUnder, draft, rounding, level, put_at, tied_at, begun, rounded, finished, reopened}
 use Rattle.filter.specs.Laws.{EveryRunKeepsTheLaw}
 use Rattle.filter.proofs.Keeps.{every_run}
-use Rattle.filter.proofs.Outcomes.{mapped, either}
 
 -- a round by a cut maker that keeps the four points is a round of a run
 pub any_maker : (rule : Rule) (leaves : Shape → Tile → Tile → Type 0) → ((s : Shape) (before after : Tile) → leaves s before after → FourPoints s before after) →

@@ -6,6 +6,7 @@ use Rattle.std.proofs.lemmas.List.{get_or-take, length-take-le}
 use Rattle.std.proofs.lemmas.Bool.{cases_lt}
 use Rattle.limits.specs.Limits.{most_strip_rows, most_columns, most_top}
 use Rattle.limits.specs.declared.refusal.Refusal.{Refusal}
+use Rattle.limits.proofs.Outcomes.{either}
 use Rattle.price.specs.Rules.{Rule, Lawful}
 use Rattle.theory.specs.Grids.{Heights, LowestCheapestGrid}
 use Rattle.theory.proofs.Locals.{lowest_same}
@@ -24,7 +25,7 @@ use Rattle.filter.specs.Calls.{GivesBack, LeavesAll, heights}
 use Rattle.filter.specs.Runs.{Accepted, put_at, tied_at, begun, rounded, finished, reopened, History, surveyed, State, draft, rounding, level, shape_of, done_of, added, next, Call, Lent, Run}
 use Rattle.filter.specs.Laws.{SameShape, EveryRunKeepsTheLaw}
 use Rattle.filter.proofs.Grids.{exists, compare}
-use Rattle.filter.proofs.Outcomes.{either, Unchanged, back_again, all_again, short_call}
+use Rattle.filter.proofs.Outcomes.{Unchanged, back_again, all_again, short_call}
 use Rattle.filter.proofs.Keeping.{Inv, on_slice, some_grid, drafted, start_inv, put_inv, tie_inv, begin_inv, round_inv, finish_inv, reopen_inv}
 
 -- the place of a row and a column of the shape is a cell

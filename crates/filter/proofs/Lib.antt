@@ -6,8 +6,8 @@ pub mod Keeps
 pub mod Joining
 pub mod Heights
 pub mod Rounds
-pub mod Each
 pub mod RunsKept
 pub mod Places
 pub mod Resurveyed
 pub mod Staying
+pub mod Numbers

@@ -1,54 +1,17 @@
--- What checks come to, and what a refused call leaves of a run.
+-- What a refused call leaves of a run.
 use Rattle.std.proofs.Common.{◌≡◌, ℕ, ◌<◌, [], length, Ok, Err, Result, refl, ap, subst, arith}
 use Rattle.limits.specs.declared.refusal.Refusal.{Refusal}
+use Rattle.limits.proofs.Outcomes.{Outcome, either, none_found, unrefused}
 use Rattle.price.specs.Rules.{Rule}
 use Rattle.tile.specs.Rating.{Rated}
 use Rattle.tile.specs.Shapes.{cells}
 use Rattle.tile.specs.Tiles.{Tile}
 use Rattle.filter.specs.declared.states.Level.{Level}
 use Rattle.filter.specs.declared.answers.Refused.{Refused}
-use Rattle.filter.specs.Checks.{CheckedBy, refused, passed, CostChecked}
+use Rattle.filter.specs.Checks.{CostChecked}
 use Rattle.filter.specs.Calls.{GivesBack, LeavesAll, CostDoes}
 use Rattle.filter.specs.Runs.{Accepted, begun, rounded, finished, reopened, History, State, draft, rounding, level, shape_of, added, next, Call}
 use Rattle.filter.proofs.Heights.{low_ends, rated_low}
-
--- a check, by its two outcomes
-pub either : {E : Type 0} {of : E → ℕ} {n : ℕ} {e : E} {Holds Rest G : Type 0} {Left : E → Type 0} → ((why : E) → Left why → G) → (Holds → Rest → G) → CheckedBy of n e Holds Left Rest → G
-either {e = e} refusal rest (refused _ _ z) = refusal e z
-either refusal rest (passed h r) = rest h r
-
--- the same check with other outcomes
-pub mapped : {E : Type 0} {of : E → ℕ} {n : ℕ} {e : E} {Holds Rest Rest' : Type 0} {Left Left' : E → Type 0} → ((why : E) → Left why → Left' why) → (Rest → Rest') →
-    CheckedBy of n e Holds Left Rest → CheckedBy of n e Holds Left' Rest'
-mapped {e = e} left rest (refused fails numbered z) = refused fails numbered (left e z)
-mapped left rest (passed h r) = passed h (rest r)
-
--- the same check with other outcomes; what it is accepted for is at hand
-pub followed : {E : Type 0} {of : E → ℕ} {n : ℕ} {e : E} {Holds Rest Rest' : Type 0} {Left Left' : E → Type 0} → ((Holds → ⊥) → (why : E) → Left why → Left' why) → (Holds → Rest → Rest') →
-    CheckedBy of n e Holds Left Rest → CheckedBy of n e Holds Left' Rest'
-followed {e = e} left rest (refused fails numbered z) = refused fails numbered (left fails e z)
-followed left rest (passed h r) = passed h (rest h r)
-
--- a check that holds comes to the rest
-pub surely : {E : Type 0} {of : E → ℕ} {n : ℕ} {e : E} {Holds Rest : Type 0} {Left : E → Type 0} → Holds → CheckedBy of n e Holds Left Rest → Rest
-surely h (refused fails _ _) = absurd (fails h)
-surely h (passed _ r) = r
-
--- what the checks of a call come to
-abbrev pub Outcome : Type 0
-Outcome = Result (Unit {0}) Refusal
-
--- where they passed, no refusal is left to explain
-pub none_found : {G X E : Type 0} {x : X} (why : E) → ◌≡◌ {A = Result X E} (Ok x) (Err why) → G
-none_found why e = let z : ◌≡◌ {A = ℕ} 0 1 = cc in absurd (omega arith)
-
-pub unrefused : {E : Type 0} {of : E → ℕ} {n : ℕ} {e : E} {Holds Rest Rest' X : Type 0} {x : X} {Left' : E → Type 0} → (Rest → Rest') →
-    CheckedBy of n e Holds (λ why. ◌≡◌ {A = Result X E} (Ok x) (Err why)) Rest → CheckedBy of n e Holds Left' Rest'
-unrefused rest = mapped (λ why z. none_found why z) rest
-
--- the cell that they found
-pub same_found : {X : Type 0} {x y : X} → ◌≡◌ {A = Result X Refusal} (Ok x) (Ok y) → x ≡ y
-same_found e = cc
 
 -- what a refused call leaves: state, tile and history as they were
 pub record Unchanged (x x' : State) (t t' : Tile) (new : History) : Type 0 where

@@ -1,9 +1,7 @@
 -- Surveys that agree at the cells pose the same problem.
 use Rattle.std.proofs.Common.{◌≡◌, ℕ, ◌+◌, ◌*◌, ◌<◌, ◌≤◌, sym, ap, ap₂, subst}
-use Rattle.std.specs.List.{ContainsAt as Has}
 use Rattle.price.specs.Rules.{Rule, priced}
-use Rattle.theory.specs.Sums.{sum, total}
-use Rattle.theory.specs.Grids.{Heights, gap, energy, CheapestGrid, LowestCheapestGrid}
+use Rattle.theory.specs.Grids.{Heights, gap, energy, LowestCheapestGrid}
 use Rattle.theory.proofs.Sums.{for_all, sum_same, total_same}
 use Rattle.tile.specs.declared.shape.Shape.{Shape}
 use Rattle.tile.specs.declared.side.Side.{Side}

@@ -3,6 +3,7 @@ use Rattle.std.proofs.Common.{◌≡◌, ℕ, ◌+◌, ◌^◌, ◌<◌, ◌≤�
 use mathlib.Core.Path.{fun_ext}
 use Rattle.std.proofs.lemmas.Bool.{cases_lt}
 use Rattle.limits.specs.Limits.{most_rounds}
+use Rattle.limits.proofs.Outcomes.{Outcome, either, none_found}
 use Rattle.price.specs.Rules.{Rule}
 use Rattle.theory.specs.Sets.{SmallestCheapestSet}
 use Rattle.tile.specs.declared.bracket.Bracket.{Bracket}
@@ -26,7 +27,6 @@ use Rattle.filter.specs.Checks.{RoundChecked}
 use Rattle.filter.specs.Calls.{HalvedBy, RoundedBy, SurveyKept}
 use Rattle.filter.proofs.Narrowing.{cut_smallest, marks_narrowed, cut_kept, cut_past, narrowed_kept}
 use Rattle.filter.proofs.Keeping.{ties_same}
-use Rattle.filter.proofs.Outcomes.{Outcome, either, none_found}
 
 -- what the checks of a round come to
 abbrev pub ComesTo : Outcome → Shape → ℕ → Tile → ℕ → ℕ → Type 0

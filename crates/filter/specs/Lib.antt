@@ -2,3 +2,5 @@ pub mod Checks
 pub mod Calls
 pub mod Runs
 pub mod Laws
+pub mod Resuming
+pub mod Copying

@@ -1,7 +1,9 @@
 // The states of a tile: plain numbers, moved from call to call. The host keeps the records and lends them to each call.
 mod checking;
+pub mod copying;
 pub mod draft_calls;
 pub mod level_calls;
+pub mod resuming;
 pub mod round_calls;
 
 ghost use Rattle.std.specs.Prelude.{◌≤◌};

@@ -1,3 +1,4 @@
+pub mod Walks
 pub mod Tests
 pub mod Fields
 pub mod Pushes

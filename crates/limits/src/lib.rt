@@ -17,6 +17,9 @@ pub const MAX_COLUMNS: usize = 64;
 // The greatest height a tile may have, and the greatest level a price rule may be made for.
 pub const MAX_TOP: u16 = 1023;
 
+// The most rounds that can be due.
+pub const MAX_ROUNDS: u8 = 10;
+
 // The greatest trust class of a reading.
 pub const MAX_CLASS: u8 = 15;
 

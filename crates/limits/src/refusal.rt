@@ -7,7 +7,7 @@ use std::fmt;
 
 #[derive(Clone, Copy, PartialEq, Eq, Debug)]
 pub enum Refusal {
-    // Rows, columns, top or the greatest level of a price rule is out of range.
+    // Rows, columns, top, the rounds done or the greatest level of a price rule is out of range.
     Range = 1,
     // There are fewer records than the tile has cells.
     FewRecords = 2,

@@ -2,3 +2,4 @@ pub mod Rewrites
 pub mod Sounds
 pub mod Pulls
 pub mod Charges
+pub mod Copies

@@ -2,3 +2,4 @@ pub mod Writing
 pub mod Soundness
 pub mod Rounds
 pub mod Pulls
+pub mod Copying

@@ -2,11 +2,11 @@
 use Rattle.std.proofs.Common.{◌≡◌, ℕ, ◌≤◌, List, length, Ok, Err, Result, refl, sym, ap, ◌∙◌, subst, arith}
 use Rattle.limits.specs.declared.refusal.Refusal.{Refusal}
 use Rattle.limits.specs.declared.refusal.Refusal.TheVariants.{FewEntries}
+use Rattle.limits.specs.Checking.{Checked, passed}
+use Rattle.limits.proofs.Outcomes.{mapped, either, none_found}
 use Rattle.tile.specs.declared.shape.Shape.{Shape}
 use Rattle.tile.specs.Shapes.{cells}
 use Rattle.tile.specs.Tiles.{Tile, Survey}
-use Rattle.filter.specs.Checks.{Checked, passed}
-use Rattle.filter.proofs.Outcomes.{mapped, either, none_found}
 use Rattle.solve.specs.Solving.{PastKept}
 use Rattle.tilefile.specs.declared.contents.Contents.{Contents}
 use Rattle.tilefile.specs.declared.fault.Fault.{Fault}
@@ -43,7 +43,19 @@ file_cramped f t n x why answer same room w =
 pub room_found : (n m : ℕ) → Checked 7 FewEntries (m ≤ n) (λ e. ◌≡◌ {A = Result (Unit {0}) Refusal} (Ok tt) (Err e)) (◌≡◌ {A = Result (Unit {0}) Refusal} (Ok tt) (Ok tt)) → m ≤ n
 room_found n m room = either (λ e z. none_found e z) (λ h _. h) room
 
--- a solution
+-- a solution, for the shape that the file asks for
+pub solution_filed : (f : List ℕ) (t : Tile) (x : Contents) (solution : Solution) (t' : Tile) → SolvedAs (letter_rule x.letter x.shape.top) x.shape (contents_survey x) t' solution → PastKept (cells x.shape) t t' →
+    (s : Shape) → Says s f x → FileSolved s f t (Ok solution) t'
+solution_filed f t x solution t' solved kept s says = record {
+  solution = solution;
+  answers = refl;
+  letter = x.letter;
+  names = says.names;
+  solved = subst (λ (y : Survey). SolvedAs (letter_rule x.letter s.top) s y t' solution) (said_filed s f x says)
+      (subst (λ (z : Shape). SolvedAs (letter_rule x.letter z.top) z (contents_survey x) t' solution) says.shape solved);
+  kept = subst (λ (z : Shape). PastKept (cells z) t t') says.shape kept;
+}
+
 pub file_solved : (f : List ℕ) (t : Tile) (n : ℕ) (x : Contents) (solution : Solution) (t' : Tile) → cells x.shape ≤ n → CheckDoes f (length t) (Ok x) →
     SolvedAs (letter_rule x.letter x.shape.top) x.shape (contents_survey x) t' solution → PastKept (cells x.shape) t t' → SolveFileDoes f t n (Ok solution) t'
 file_solved f t n x solution t' room w solved kept = file_mapped (λ s. Says s f x) (Outcome f t n (Ok solution) t') f (length t) (λ e z. none_found e z) end w
@@ -51,12 +63,4 @@ file_solved f t n x solution t' room w solved kept = file_mapped (λ s. Says s f
     end : (s : Shape) → Says s f x → Outcome f t n (Ok solution) t' s
     end s says =
         let same : cells x.shape ≡ cells s = ap cells says.shape in
-        passed (omega arith) (record {
-          solution = solution;
-          answers = refl;
-          letter = x.letter;
-          names = says.names;
-          solved = subst (λ (y : Survey). SolvedAs (letter_rule x.letter s.top) s y t' solution) (said_filed s f x says)
-              (subst (λ (z : Shape). SolvedAs (letter_rule x.letter z.top) z (contents_survey x) t' solution) says.shape solved);
-          kept = subst (λ (z : Shape). PastKept (cells z) t t') says.shape kept;
-        })
+        passed (omega arith) (solution_filed f t x solution t' solved kept s says)

@@ -2,3 +2,4 @@ pub mod Solutions
 pub mod Filed
 pub mod Texts
 pub mod Printed
+pub mod FiledInto

@@ -1,11 +1,11 @@
 -- From what solving a file does to what is printed for it.
 use Rattle.std.proofs.Common.{◌≡◌, ℕ, ◌*◌, ◌≤◌, List, ◌++◌, length, Ok, Err, Result, IfOk, sym, ap, ap₂, ◌∙◌, subst, arith}
 use Rattle.std.specs.Prelude.{codes}
+use Rattle.limits.specs.Checking.{refused, passed}
+use Rattle.limits.proofs.Outcomes.{either, none_found}
 use Rattle.tile.specs.declared.shape.Shape.{Shape}
 use Rattle.tile.specs.Shapes.{cells}
 use Rattle.tile.specs.Tiles.{Tile}
-use Rattle.filter.specs.Checks.{refused, passed}
-use Rattle.filter.proofs.Outcomes.{either, none_found}
 use Rattle.tilefile.specs.declared.fault.Fault.{Fault}
 use Rattle.tilefile.specs.Faults.{fault_text}
 use Rattle.tilefile.specs.Letters.{letter_rule}

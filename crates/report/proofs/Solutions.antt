@@ -3,6 +3,7 @@ use Rattle.std.proofs.Common.{◌≡◌, ℕ, zero, suc, ◌<◌, ◌≤◌, ◌
 use Rattle.std.proofs.lemmas.Bool.{cond_both, eqb-true, eqb-false}
 use Rattle.std.proofs.lemmas.List.{get_or-take}
 use Rattle.limits.specs.declared.refusal.Refusal.{Refusal}
+use Rattle.limits.proofs.Outcomes.{surely}
 use Rattle.price.specs.Rules.{Rule, Lawful}
 use Rattle.theory.specs.Grids.{energy}
 use Rattle.tile.specs.declared.shape.Shape.{Shape}
@@ -16,7 +17,6 @@ use Rattle.filter.specs.declared.states.Level.{Level}
 use Rattle.filter.specs.Calls.{heights, CostDoes, SurveyKept}
 use Rattle.filter.specs.Runs.{surveyed, draft, level, Lent, Run}
 use Rattle.filter.proofs.Keeps.{every_run}
-use Rattle.filter.proofs.Outcomes.{surely}
 use Rattle.filter.proofs.Resurveyed.{SameSurvey, energy_resurveyed}
 use Rattle.filter.proofs.RunsKept.{sound_slice}
 use Rattle.solve.specs.Solving.{PastKept, SolvesRuns, Solved}

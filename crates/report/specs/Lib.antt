@@ -2,3 +2,4 @@ pub mod Refusing
 pub mod Solving
 pub mod Printing
 pub mod Answering
+pub mod Copying

@@ -1,13 +1,13 @@
 -- What solving a file answers and leaves.
 use Rattle.std.specs.Prelude.{◌≡◌, ℕ, ◌≤◌, List, length, Ok, Err, Result}
 use Rattle.limits.specs.declared.refusal.Refusal.TheVariants.{FewEntries}
+use Rattle.limits.specs.Checking.{Checked}
 use Rattle.price.specs.Rules.{Rule}
 use Rattle.theory.specs.Grids.{LowestCheapestGrid, energy}
 use Rattle.tile.specs.declared.shape.Shape.{Shape}
 use Rattle.tile.specs.Halving.{RoundsDue}
 use Rattle.tile.specs.Shapes.{cells}
 use Rattle.tile.specs.Tiles.{Tile, Survey, problem}
-use Rattle.filter.specs.Checks.{Checked}
 use Rattle.filter.specs.Calls.{heights}
 use Rattle.solve.specs.Solving.{PastKept}
 use Rattle.tilefile.specs.declared.letter.Letter.{Letter}

@@ -2,10 +2,12 @@
 #![tactic(auto)]
 
 pub mod answering;
+pub mod copying;
 pub mod printing;
 pub mod refusing;
 pub mod solving;
 
 pub use answering::answer;
+pub use copying::solve_file_into;
 pub use refusing::FileRefusal;
 pub use solving::{Solution, solve_file};

@@ -1,8 +1,8 @@
 // Solving a tile file: from its bytes to the lowest cheapest grid.
 ghost use Rattle.std.specs.Prelude.{◌≡◌, ◌≤◌, length};
 ghost use Rattle.limits.specs.declared.refusal.Refusal.TheVariants.{FewEntries};
+ghost use Rattle.limits.specs.Checking.{Checked};
 ghost use Rattle.tile.specs.Halving.{RoundsDue};
-ghost use Rattle.filter.specs.Checks.{Checked};
 ghost use Rattle.filter.specs.Calls.{KeptIfRefused};
 ghost use Rattle.price.specs.Rules.{ruled};
 ghost use Rattle.tile.specs.Shapes.{cells};
@@ -22,7 +22,8 @@ use tile::bracket::rounds_due;
 use tile::{Cell, Refusal, Shape};
 use tilefile::{Contents, Letter};
 
-// What solving a file came to. The heights are the low ends of the records.
+// What solving a file came to. The heights are the low ends of the records. Laid out as in C.
+#[repr(C)]
 #[derive(Clone, Copy, PartialEq, Eq, Debug)]
 pub struct Solution {
     pub rows: usize,
@@ -34,7 +35,7 @@ pub struct Solution {
 }
 
 // Is there an entry of workspace for each cell?
-fn check_room(shape: Shape, entries: usize) -> Result<(), Refusal>
+pub(crate) fn check_room(shape: Shape, entries: usize) -> Result<(), Refusal>
     ensures { Checked 7 FewEntries (cells shape ≤ entries) (λ e. result ≡ Err e) (result ≡ Ok tt) }
 {
     if entries < shape.cells() {
@@ -97,7 +98,7 @@ fn solve_under<C: Curve, M: CutMaker>(
 }
 
 // The same under the rule of the file's letter.
-fn solve_by_letter<M: CutMaker>(
+pub(crate) fn solve_by_letter<M: CutMaker>(
     contents: &Contents,
     tile: &mut [Cell],
     maker: &M,

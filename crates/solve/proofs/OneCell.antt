@@ -3,20 +3,20 @@ use Rattle.std.proofs.Common.{◌≡◌, ℕ, ◌*◌, ◌≤◌, [], length, ta
 use Rattle.limits.specs.Limits.{most_rows}
 use Rattle.limits.specs.declared.refusal.Refusal.{Refusal}
 use Rattle.limits.specs.declared.refusal.Refusal.TheVariants.{FewEntries}
+use Rattle.limits.specs.Checking.{Checked}
+use Rattle.limits.proofs.Outcomes.{followed, surely}
 use Rattle.price.specs.Rules.{Rule, Lawful}
 use Rattle.tile.specs.declared.shape.Shape.{Shape}
 use Rattle.tile.specs.Shapes.{cells, Ranged, MadeOf}
 use Rattle.tile.specs.Tiles.{Tile, Survey}
 use Rattle.filter.specs.declared.states.Draft.{Draft}
 use Rattle.filter.specs.declared.states.Level.{Level}
-use Rattle.filter.specs.Checks.{Checked}
 use Rattle.filter.specs.Calls.{StartDoes, SurveyKept, KeptIfRefused}
 use Rattle.filter.specs.Runs.{surveyed, Begins, Lent, Run, draft, level}
 use Rattle.filter.specs.Laws.{EveryRunKeepsTheLaw}
 use Rattle.solve.specs.Solving.{PastKept, SolvesRuns, Solved}
 use Rattle.solve.specs.Refusing.{SameHistory}
 use Rattle.solve.specs.OneCell.{FinishedRun, OneCellDoes}
-use Rattle.filter.proofs.Outcomes.{followed, surely}
 use Rattle.filter.proofs.RunsKept.{not_both, run_shape}
 use Rattle.solve.proofs.Steps.{same_refusal, started_shape}
 use Rattle.solve.proofs.Past.{past_more, started_past, survey_past}

@@ -3,6 +3,7 @@ use Rattle.std.proofs.Common.{◌≡◌, ℕ, ◌*◌, ◌<◌, length, set, Ok,
 use Rattle.std.proofs.lemmas.Nat.{mul-add-lt}
 use Rattle.std.proofs.lemmas.List.{get_or-set_other, length-set}
 use Rattle.limits.specs.declared.refusal.Refusal.{Refusal}
+use Rattle.limits.proofs.Outcomes.{either}
 use Rattle.tile.specs.declared.cell.Cell.{Cell}
 use Rattle.tile.specs.declared.shape.Shape.{Shape}
 use Rattle.tile.specs.declared.side.Side.{Side}
@@ -14,7 +15,6 @@ use Rattle.filter.specs.declared.states.Draft.{Draft}
 use Rattle.filter.specs.declared.answers.Refused.{Refused}
 use Rattle.filter.specs.Checks.{Inside, place}
 use Rattle.filter.specs.Calls.{StartDoes, LeavesAll, PutDoes, TieDoes, SurveyKept}
-use Rattle.filter.proofs.Outcomes.{either}
 use Rattle.solve.specs.Solving.{PastKept}
 use Rattle.solve.proofs.Steps.{plain}
 

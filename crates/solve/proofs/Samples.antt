@@ -4,6 +4,9 @@ use Rattle.std.proofs.lemmas.List.{get_or-take, get_or_past, length-take-le}
 use Rattle.std.proofs.lemmas.Bool.{cond_both, cases_lt, eqb-true, eqb-false}
 use Rattle.limits.specs.declared.refusal.Refusal.{Refusal}
 use Rattle.limits.specs.declared.refusal.Refusal.TheVariants.{FewRecords, Tie}
+use Rattle.limits.specs.Checking.{Checked, refused, passed}
+use Rattle.limits.proofs.Outcomes.{mapped, followed, surely}
+use Rattle.limits.proofs.Each.{each_passed, each_refused}
 use Rattle.price.specs.Rules.{Rule, Lawful}
 use Rattle.tile.specs.declared.shape.Shape.{Shape}
 use Rattle.tile.specs.declared.side.Side.{Side}
@@ -14,13 +17,11 @@ use Rattle.passes.specs.Soundness.{SoundReading, SoundTies}
 use Rattle.passes.specs.Writing.{with_reading, with_ties, weights}
 use Rattle.filter.specs.declared.states.Draft.{Draft}
 use Rattle.filter.specs.declared.answers.Refused.{Refused}
-use Rattle.filter.specs.Checks.{Checked, refused, passed, Inside, place, PutChecked, TieChecked}
+use Rattle.filter.specs.Checks.{Inside, place, PutChecked, TieChecked}
 use Rattle.filter.specs.Calls.{LeavesAll, PutDoes, TieDoes}
 use Rattle.filter.specs.Runs.{put_at, tied_at, History, updated, draft, Lent, Run, GoesOn}
 use Rattle.filter.specs.Laws.{EveryRunKeepsTheLaw}
-use Rattle.filter.proofs.Outcomes.{mapped, followed, surely}
 use Rattle.filter.proofs.Places.{place_of, inside_of}
-use Rattle.filter.proofs.Each.{each_passed, each_refused}
 use Rattle.solve.specs.declared.surveying.Sample.{Sample}
 use Rattle.solve.specs.Solving.{PastKept, Led}
 use Rattle.solve.specs.Surveying.{At, sample, ties, sampled, SampleChecked, Drafted, PutsSample, TiesSample, WritesSample, Surveyed, WritesSamples}

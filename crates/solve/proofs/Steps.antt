@@ -5,6 +5,8 @@ use Rattle.std.proofs.lemmas.Result.{err_from_is_err_and}
 use Rattle.std.proofs.lemmas.Bool.{cases_lt}
 use Rattle.limits.specs.Limits.{most_rows}
 use Rattle.limits.specs.declared.refusal.Refusal.{Refusal}
+use Rattle.limits.specs.Checking.{passed}
+use Rattle.limits.proofs.Outcomes.{either, mapped, followed, surely}
 use Rattle.price.specs.Rules.{Rule, Lawful}
 use Rattle.theory.proofs.Locals.{lowest_same}
 use Rattle.tile.specs.declared.cell.Cell.{Cell}
@@ -19,12 +21,11 @@ use Rattle.filter.specs.declared.states.Rounding.{Rounding}
 use Rattle.filter.specs.declared.states.Level.{Level}
 use Rattle.filter.specs.declared.answers.Refused.{Refused}
 use Rattle.filter.specs.declared.answers.Rounded.{Rounded}
-use Rattle.filter.specs.Checks.{passed, TileChecked, RoundChecked}
+use Rattle.filter.specs.Checks.{TileChecked, RoundChecked}
 use Rattle.filter.specs.Calls.{StartDoes, LeavesAll, BeginDoes, RoundDoes, SurveyKept, KeptIfRefused, FinishedBy, FinishDoes, heights}
 use Rattle.filter.specs.Runs.{begun, rounded, finished, History, surveyed, State, draft, rounding, level, added, next, Lent, Run, GoesOn, GoesOnUnder}
 use Rattle.filter.specs.Laws.{EveryRunKeepsTheLaw}
 use Rattle.solve.specs.Solving.{RefusedAs, RoundsChecked, Levelled, SolveDoes, Solved, SolveChecked, SolvesRuns, Onward, RoundedTo, BeginsRounds, RoundsOnce, RoundsAhead, RoundsAll, RoundsBehind, SolvedFrom, FinishesRounds}
-use Rattle.filter.proofs.Outcomes.{either, mapped, followed, surely}
 use Rattle.filter.proofs.RunsKept.{not_both, run_shape, sound_slice, lent_whole}
 
 -- an answer whose refusal says only why

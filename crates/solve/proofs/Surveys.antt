@@ -2,6 +2,8 @@
 use Rattle.std.proofs.Common.{◌≡◌, ℕ, ◌*◌, ◌≤◌, List, length, take, Ok, Err, Result, sym, refl, ◌∙◌, subst, ap₂, arith}
 use Rattle.limits.specs.Limits.{most_rows}
 use Rattle.limits.specs.declared.refusal.Refusal.{Refusal}
+use Rattle.limits.proofs.Outcomes.{mapped, followed, surely}
+use Rattle.limits.proofs.Each.{each_mapped}
 use Rattle.price.specs.Rules.{Rule, Lawful}
 use Rattle.tile.specs.declared.shape.Shape.{Shape}
 use Rattle.tile.specs.Shapes.{cells, MadeOf}
@@ -10,8 +12,6 @@ use Rattle.filter.specs.declared.states.Draft.{Draft}
 use Rattle.filter.specs.declared.states.Level.{Level}
 use Rattle.filter.specs.Calls.{StartDoes, SurveyKept, KeptIfRefused}
 use Rattle.filter.specs.Runs.{draft, Lent, Run, Begins}
-use Rattle.filter.proofs.Outcomes.{mapped, followed, surely}
-use Rattle.filter.proofs.Each.{each_mapped}
 use Rattle.filter.proofs.RunsKept.{not_both}
 use Rattle.solve.specs.declared.surveying.Sample.{Sample}
 use Rattle.solve.specs.Solving.{PastKept, RoundsChecked, Solved, SolvesRuns}

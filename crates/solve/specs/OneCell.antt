@@ -2,10 +2,10 @@
 use Rattle.std.specs.Prelude.{◌≡◌, ℕ, ◌≤◌, length, take, Ok, Err, Result}
 use Rattle.limits.specs.declared.refusal.Refusal.{Refusal}
 use Rattle.limits.specs.declared.refusal.Refusal.TheVariants.{FewRecords, FewEntries}
+use Rattle.limits.specs.Checking.{Checked}
 use Rattle.price.specs.Rules.{Rule}
 use Rattle.tile.specs.Tiles.{Tile}
 use Rattle.filter.specs.declared.states.Level.{Level}
-use Rattle.filter.specs.Checks.{Checked}
 use Rattle.filter.specs.Runs.{History, Finished, level, Run}
 use Rattle.solve.specs.Solving.{RefusedAs}
 

@@ -2,6 +2,7 @@
 use Rattle.std.specs.Prelude.{◌≡◌, ℕ, ◌+◌, ◌≤◌, length, take, Ok, Err, Result}
 use Rattle.limits.specs.declared.refusal.Refusal.{Refusal}
 use Rattle.limits.specs.declared.refusal.Refusal.TheVariants.{FewRecords, FewEntries, Ceiling}
+use Rattle.limits.specs.Checking.{Checked}
 use Rattle.price.specs.Rules.{Rule, Lawful}
 use Rattle.theory.specs.Grids.{LowestCheapestGrid}
 use Rattle.tile.specs.declared.shape.Shape.{Shape}
@@ -12,7 +13,7 @@ use Rattle.passes.specs.Soundness.{Sound}
 use Rattle.filter.specs.declared.states.Draft.{Draft}
 use Rattle.filter.specs.declared.states.Rounding.{Rounding}
 use Rattle.filter.specs.declared.states.Level.{Level}
-use Rattle.filter.specs.Checks.{Checked, TileChecked, RoundChecked}
+use Rattle.filter.specs.Checks.{TileChecked, RoundChecked}
 use Rattle.filter.specs.Calls.{heights}
 use Rattle.filter.specs.Runs.{History, Finished, surveyed, State, draft, rounding, level, Lent, Run}
 

@@ -5,7 +5,9 @@ ghost use Rattle.tile.specs.Records.{stored_tie, stored_flow, stored_bracket, sh
 use crate::bracket::Bracket;
 use crate::side::Side;
 
-// The host owns the records of a tile, row by row, and may write anything into them.
+// The host owns the records of a tile, row by row, and may write anything into them. They are laid out as in C, so that a host in C
+// may own them too.
+#[repr(C)]
 #[derive(Clone, Copy, Default)]
 pub struct Cell {
     // What was read at the cell.

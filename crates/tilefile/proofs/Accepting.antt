@@ -3,6 +3,8 @@ use Rattle.std.proofs.Common.{◌≡◌, ℕ, ◌+◌, ◌-◌, ◌*◌, ◌<◌
 use Rattle.std.proofs.lemmas.List.{append-nil}
 use Rattle.std.proofs.lemmas.Nat.{mul-le}
 use Rattle.limits.specs.Limits.{most_rows}
+use Rattle.limits.proofs.Each.{each_surely}
+use Rattle.limits.proofs.Outcomes.{surely}
 use Rattle.tile.specs.declared.shape.Shape.{Shape}
 use Rattle.tile.specs.declared.side.Side.{Side}
 use Rattle.tile.specs.declared.side.Side.TheVariants.{Rightward, Downward}
@@ -11,9 +13,7 @@ use Rattle.tile.specs.Tiles.{Tile, Survey}
 use Rattle.passes.specs.Soundness.{SoundReading, SoundTie}
 use Rattle.filter.specs.declared.states.Draft.{Draft}
 use Rattle.filter.specs.Laws.{SameShape}
-use Rattle.filter.proofs.Each.{each_surely}
 use Rattle.filter.proofs.Keeps.{same_shape}
-use Rattle.filter.proofs.Outcomes.{surely}
 use Rattle.tilefile.specs.declared.fault.Fault.{Fault}
 use Rattle.tilefile.specs.declared.letter.Letter.{Letter}
 use Rattle.tilefile.specs.declared.letter.Letter.TheVariants.{Absolute, Squared, Leaning}

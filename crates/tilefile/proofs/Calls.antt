@@ -3,6 +3,7 @@ use Rattle.std.proofs.Common.{◌≡◌, ℕ, zero, suc, ◌+◌, ◌/◌, ◌%�
 use Rattle.std.specs.List.{range_with_len}
 use Rattle.std.proofs.lemmas.List.{drop_at, set-set, get_or-set_same, length-set}
 use Rattle.std.proofs.lemmas.List.FromFn.{length-map-range_with_len, get_or-map-range_with_len, fill_by_all}
+use Rattle.limits.specs.Checking.{passed}
 use Rattle.price.specs.Rules.{Rule, Lawful}
 use Rattle.tile.specs.declared.cell.Cell.{Cell}
 use Rattle.tile.specs.declared.side.Side.{Side}
@@ -12,7 +13,7 @@ use Rattle.passes.specs.Soundness.{SoundReading, SoundTies}
 use Rattle.passes.specs.Writing.{with_reading, with_ties, fresh, rewritten}
 use Rattle.passes.proofs.Rewrites.{rewritten_length, rewritten_more, cell_past}
 use Rattle.filter.specs.declared.states.Draft.{Draft}
-use Rattle.filter.specs.Checks.{passed, place}
+use Rattle.filter.specs.Checks.{place}
 use Rattle.filter.specs.Calls.{PutDoes, TieDoes}
 use Rattle.filter.specs.Runs.{put_at, tied_at, History, draft, Lent, Call, Run}
 use Rattle.filter.proofs.Keeps.{every_run}

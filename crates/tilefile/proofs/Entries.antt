@@ -1,6 +1,9 @@
 -- The entries of a section, read one after the other.
 use Rattle.std.proofs.Common.{◌≡◌, ℕ, ◌+◌, ◌<◌, ◌≤◌, List, length, Result, Ok, Err, IsErrAnd, IsErrOf, sym, ap, ◌∙◌, subst, arith, below_more}
 use Rattle.std.proofs.lemmas.Result.{err_from_is_err_and}
+use Rattle.limits.specs.Checking.{passed, refused}
+use Rattle.limits.proofs.Outcomes.{mapped, none_found, unrefused}
+use Rattle.limits.proofs.Each.{each_passed, each_refused}
 use Rattle.tile.specs.declared.shape.Shape.{Shape}
 use Rattle.passes.specs.Soundness.{SoundReading, SoundTies}
 use Rattle.tilefile.specs.Bytes.{number_at}
@@ -10,9 +13,6 @@ use Rattle.tilefile.specs.declared.fault.Flaw.TheVariants.{Entry}
 use Rattle.tilefile.specs.declared.fault.Fault.{Fault}
 use Rattle.tilefile.specs.Sections.{fault, CountChecked, class_at, reading_place, ReadingChecked, ReadingsChecked, tie_numbers, ties_place, TieChecked, TiesChecked}
 use Rattle.tile.specs.Shapes.{cells}
-use Rattle.filter.specs.Checks.{passed, refused}
-use Rattle.filter.proofs.Outcomes.{mapped, none_found, unrefused}
-use Rattle.filter.proofs.Each.{each_passed, each_refused}
 
 -- the entry at q is there, and a call would accept it
 pub record ReadingFits (s : Shape) (f : List ℕ) (q : ℕ) : Type 0 where

@@ -1,5 +1,6 @@
 -- Records that are filled with a survey.
 use Rattle.std.proofs.Common.{◌≡◌, ℕ, ◌<◌, ◌≤◌, [], length, take, Ok, refl, sym, ap, ◌∙◌, subst, arith}
+use Rattle.limits.specs.Checking.{passed}
 use Rattle.price.specs.Rules.{Rule}
 use Rattle.tile.specs.declared.shape.Shape.{Shape}
 use Rattle.tile.specs.Shapes.{cells}
@@ -7,7 +8,6 @@ use Rattle.tile.specs.Tiles.{Tile, Survey, cell}
 use Rattle.passes.specs.Writing.{fresh, rewritten}
 use Rattle.passes.proofs.Rewrites.{rewritten_length, cell_rewritten}
 use Rattle.filter.specs.declared.states.Draft.{Draft}
-use Rattle.filter.specs.Checks.{passed}
 use Rattle.filter.specs.Runs.{draft, Run}
 use Rattle.tilefile.specs.Survey.{Writable, cell_record}
 use Rattle.tilefile.specs.Files.{FillDoes, survey_calls, LedTo}

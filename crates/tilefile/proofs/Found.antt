@@ -1,12 +1,12 @@
 -- From what checking a file answers to what reading it does.
 use Rattle.std.proofs.Common.{◌≡◌, ℕ, ◌*◌, ◌≤◌, List, length, Result, Ok, Err, refl, sym, ap, ap₂, ◌∙◌, subst, arith}
 use Rattle.limits.specs.declared.refusal.Refusal.{Refusal}
+use Rattle.limits.proofs.Outcomes.{none_found, surely}
 use Rattle.tile.specs.declared.shape.Shape.{Shape}
 use Rattle.tile.specs.Shapes.{cells}
 use Rattle.tile.specs.Tiles.{Tile, Survey}
 use Rattle.passes.specs.Writing.{rewritten}
 use Rattle.filter.specs.declared.states.Draft.{Draft}
-use Rattle.filter.proofs.Outcomes.{none_found, surely}
 use Rattle.tilefile.specs.declared.contents.Contents.{Contents}
 use Rattle.tilefile.specs.declared.fault.Fault.{Fault}
 use Rattle.tilefile.specs.declared.letter.Letter.{Letter}

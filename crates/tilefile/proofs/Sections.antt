@@ -1,10 +1,10 @@
 -- The checks of a section, with other outcomes.
 use Rattle.std.proofs.Common.{ℕ, ◌+◌, ◌*◌, ◌≤◌, List}
 use Rattle.limits.specs.declared.refusal.Refusal.{Refusal}
+use Rattle.limits.proofs.Outcomes.{mapped, followed}
+use Rattle.limits.proofs.Each.{each_mapped}
 use Rattle.tile.specs.declared.shape.Shape.{Shape}
 use Rattle.tile.specs.Shapes.{cells}
-use Rattle.filter.proofs.Outcomes.{mapped, followed}
-use Rattle.filter.proofs.Each.{each_mapped}
 use Rattle.tilefile.specs.declared.fault.Section.{Section}
 use Rattle.tilefile.specs.declared.fault.Section.TheVariants as section
 use Rattle.tilefile.specs.declared.fault.Flaw.TheVariants.{Entry}

@@ -3,13 +3,13 @@ use Rattle.std.proofs.Common.{◌≡◌, ℕ, ◌+◌, ◌-◌, ◌*◌, ◌<◌
 use Rattle.std.proofs.Math.Nat.{le-mul_of_pos_right}
 use Rattle.std.proofs.lemmas.List.{get_or-drop, length-drop}
 use Rattle.limits.specs.Limits.{most_rows}
+use Rattle.limits.specs.Checking.{refused, passed}
+use Rattle.limits.proofs.Each.{each_found}
 use Rattle.tile.specs.declared.shape.Shape.{Shape}
 use Rattle.tile.specs.declared.side.Side.{Side}
 use Rattle.tile.specs.declared.side.Side.TheVariants.{Rightward, Downward}
 use Rattle.tile.specs.Shapes.{cells}
 use Rattle.passes.specs.Soundness.{SoundReading, SoundTie}
-use Rattle.filter.specs.Checks.{refused, passed}
-use Rattle.filter.proofs.Each.{each_found}
 use Rattle.tilefile.specs.declared.fault.Fault.{Fault}
 use Rattle.tilefile.specs.Bytes.{byte_at, number_at}
 use Rattle.tilefile.specs.Letters.{NamesOne}

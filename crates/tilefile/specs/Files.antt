@@ -3,13 +3,13 @@ use Rattle.std.specs.Prelude.{◌≡◌, ℕ, zero, suc, ◌≤◌, length, List
 use Rattle.limits.specs.Limits.{most_rows}
 use Rattle.limits.specs.declared.refusal.Refusal.{Refusal}
 use Rattle.limits.specs.declared.refusal.Refusal.TheVariants.{FewRecords}
+use Rattle.limits.specs.Checking.{Checked}
 use Rattle.price.specs.Rules.{Rule, Lawful}
 use Rattle.tile.specs.declared.shape.Shape.{Shape}
 use Rattle.tile.specs.Shapes.{cells, MadeOf}
 use Rattle.tile.specs.Tiles.{Tile, Survey}
 use Rattle.passes.specs.Writing.{rewritten}
 use Rattle.filter.specs.declared.states.Draft.{Draft}
-use Rattle.filter.specs.Checks.{Checked}
 use Rattle.filter.specs.Runs.{put_at, tied_at, History, draft, Run}
 use Rattle.tilefile.specs.declared.fault.Fault.{Fault}
 use Rattle.tilefile.specs.declared.letter.Letter.{Letter}

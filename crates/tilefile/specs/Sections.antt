@@ -2,12 +2,13 @@
 use Rattle.std.specs.Prelude.{◌≡◌, ℕ, ◌+◌, ◌*◌, ◌≤◌, List, length}
 use Rattle.limits.specs.declared.refusal.Refusal.{Refusal}
 use Rattle.limits.specs.declared.refusal.Refusal.TheVariants.{Reading, Tie}
+use Rattle.limits.specs.Checking.{CheckedBy, Checked, EachChecked}
 use Rattle.tile.specs.declared.shape.Shape.{Shape}
 use Rattle.tile.specs.declared.side.Side.{Side}
 use Rattle.tile.specs.Shapes.{cells}
 use Rattle.passes.specs.Soundness.{SoundReading, SoundTies}
 use Rattle.passes.specs.Writing.{weights}
-use Rattle.filter.specs.Checks.{CheckedBy, Checked, EachChecked, StartChecked}
+use Rattle.filter.specs.Checks.{StartChecked}
 use Rattle.tilefile.specs.declared.fault.Section.{Section}
 use Rattle.tilefile.specs.declared.fault.Section.TheVariants as section
 use Rattle.tilefile.specs.declared.fault.Flaw.{Flaw}

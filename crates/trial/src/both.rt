@@ -5,13 +5,12 @@ ghost use Rattle.tile.specs.Shapes.{cells};
 ghost use Rattle.flow.specs.Networks.{network, charges, marks};
 ghost use Rattle.flow.specs.Points.{Cuttable};
 
-use crate::checks::is_cuttable;
 use cut::{AugmentingPaths, PushRelabel, Step};
-use flow::run_cut;
+use flow::{check_cut, run_cut};
 use tile::{Cell, Refusal, Shape};
 
-// Cuts two copies of a tile, one by each maker. Refuses with `FewEntries` where a workspace is too short and with `Corrupt` where
-// a copy may not be cut, and for nothing else, and then cuts nothing. On equal copies the two makers mark the same cells.
+// Cuts two copies of a tile, one by each maker. Refuses as `check_cut` does, the first copy before the second, and then cuts
+// nothing. On equal copies the two makers mark the same cells.
 pub fn cut_both(
     shape: Shape,
     first: &mut [Cell],
@@ -25,13 +24,8 @@ pub fn cut_both(
     ensures by_paths { OnOk result (SmallestCheapestSet (network shape first.old) (charges first.old) (marks first.new)) }
     ensures by_ranks { OnOk result (SmallestCheapestSet (network shape second.old) (charges second.old) (marks second.new)) }
 {
-    let n = shape.cells();
-    if steps.len() < n || numbers.len() < n {
-        return Err(Refusal::FewEntries);
-    }
-    if !is_cuttable(shape, first) || !is_cuttable(shape, second) {
-        return Err(Refusal::Corrupt);
-    }
+    check_cut(shape, first, steps.len())?;
+    check_cut(shape, second, numbers.len())?;
     run_cut(&AugmentingPaths, shape, first, steps);
     run_cut(&PushRelabel, shape, second, numbers);
     Ok(())

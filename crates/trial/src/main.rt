@@ -2,7 +2,6 @@
 #![tactic(auto)]
 
 mod both;
-mod checks;
 mod random;
 mod tally;
 mod tiles;

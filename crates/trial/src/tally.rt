@@ -1,8 +1,9 @@
 // What a group of tiles comes to.
-ghost use Rattle.std.specs.Prelude.{◌↔◌, IsTrue};
+ghost use Rattle.std.specs.Prelude.{◌<◌, ◌↔◌, IsTrue};
+ghost use Rattle.tile.specs.Shapes.{cells};
 ghost use Rattle.trial.specs.Marks.{SameMarks};
 
-use crate::checks::Chart;
+use flow::Chart;
 use std::fmt;
 use tile::{Cell, Shape, Side};
 
@@ -38,27 +39,19 @@ pub fn same_marks(first: &[Cell], second: &[Cell]) -> bool
     first.len() == second.len() && first.iter().zip(second).all(|(a, b)| a.mark == b.mark)
 }
 
-impl<'a> Chart<'a> {
-    ghost use Rattle.std.specs.Prelude.{◌<◌};
-    ghost use Rattle.tile.specs.Shapes.{cells};
-
-    // What the tie on a side adds to the cost of the marked set.
-    fn cut_cost(&self, at: usize, side: Side) -> i64
-        requires { at < cells self.now.shape }
-    {
-        match self.live_neighbour(at, side) {
-            Some(other) if self.tile[at].mark != self.tile[other].mark => {
-                i64::from(self.tile[at].tie(side))
-            }
-            _ => 0,
+// What the tie on a side adds to the cost of the marked set.
+fn cut_cost(chart: &Chart, at: usize, side: Side) -> i64
+    requires { at < cells chart.now.shape }
+{
+    match chart.live_neighbour(at, side) {
+        Some(other) if chart.tile[at].mark != chart.tile[other].mark => {
+            i64::from(chart.tile[at].tie(side))
         }
+        _ => 0,
     }
 }
 
 impl Tally {
-    ghost use Rattle.std.specs.Prelude.{◌<◌};
-    ghost use Rattle.tile.specs.Shapes.{cells};
-
     // Adds one cell of a tile that was cut.
     fn add_cell(&mut self, chart: &Chart, at: usize)
         requires { at < cells chart.now.shape }
@@ -76,7 +69,7 @@ impl Tally {
             self.cost = self.cost.saturating_add(i64::from(cell.charge));
         }
         for side in [Side::Rightward, Side::Downward] {
-            self.cost = self.cost.saturating_add(chart.cut_cost(at, side));
+            self.cost = self.cost.saturating_add(cut_cost(chart, at, side));
         }
     }
 

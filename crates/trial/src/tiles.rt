@@ -1,6 +1,6 @@
 // Charged tiles with pseudo-random charges, brackets, ties, flows, marks and ranks.
-use crate::checks::Chart;
 use crate::random::Random;
+use flow::Chart;
 use tile::{Bracket, Cell, Shape, Side};
 
 // How large charges and ties may get.

@@ -1,10 +1,11 @@
 // The checks that calls share, in the order of the refusals' numbers.
 ghost use Rattle.std.specs.Prelude.{◌≡◌, ◌<◌, ◌≤◌, ◌↔◌, length, IsTrue, IfOk, nat_le};
 ghost use Rattle.limits.specs.declared.refusal.Refusal.TheVariants.{Outside};
+ghost use Rattle.limits.specs.Checking.{Checked};
 ghost use Rattle.tile.specs.Halving.{RoundsOver};
 ghost use Rattle.tile.specs.Shapes.{cells};
 ghost use Rattle.passes.specs.Writing.{weights};
-ghost use Rattle.filter.specs.Checks.{Checked, Inside, place, TileChecked, PutChecked, TieChecked, RoundChecked, FinishChecked, HeightChecked, CostChecked};
+ghost use Rattle.filter.specs.Checks.{Inside, place, TileChecked, PutChecked, TieChecked, RoundChecked, FinishChecked, HeightChecked, CostChecked};
 
 use crate::states::{Draft, Level, Rounding};
 use passes::{are_ties_sound, is_reading_sound, is_sound};

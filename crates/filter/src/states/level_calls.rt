@@ -1,5 +1,5 @@
 // The calls once every cell has one height.
-ghost use Rattle.std.specs.Prelude.{◌≡◌, map};
+ghost use Rattle.std.specs.Prelude.{map};
 ghost use Rattle.tile.specs.declared.cell.Cell.{Cell as Record};
 ghost use Rattle.filter.specs.Calls.{ReopenDoes, HeightDoes, CostDoes};
 ghost use Rattle.filter.specs.Runs.{draft, level, reopened, GoesOn};
@@ -8,15 +8,9 @@ ghost use Rattle.filter.specs.Laws.{EveryRunKeepsTheLaw};
 use crate::answers::Refused;
 use crate::states::round_calls::reopen;
 use crate::states::{Draft, Level};
+use passes::low_end;
 use price::PriceRule;
 use tile::{Cell, HeightGrid, Refusal, energy};
-
-// The height of a cell whose bracket holds one height.
-fn low_end(cell: &Cell) -> u16
-    ensures { result ≡ cell.now.low }
-{
-    cell.low
-}
 
 // The grid of heights that records hold: each cell's low end. `HeightList` is the same over numbers; one implementation for
 // both, over a trait of what has a height, would be longer than the two.

@@ -1,7 +1,7 @@
 use Rattle.std.proofs.Common.{refl}
+use Rattle.limits.proofs.Outcomes.{unrefused}
 use Rattle.filter.proofs.Keeps.{every_run}
 use Rattle.filter.proofs.Joining.{begin_met}
-use Rattle.filter.proofs.Outcomes.{unrefused}
 use Rattle.filter.proofs.states.Draft.begin.Goals as goal
 
 pub returns-in-Err-clause-law : goal.returns-in-Err-clause-law

@@ -1,9 +1,9 @@
 use Rattle.std.proofs.Common.{◌≡◌, ℕ, set, refl, subst, rules}
+use Rattle.limits.proofs.Outcomes.{unrefused, same_found}
 use Rattle.tile.specs.Tiles.{cell}
 use Rattle.passes.specs.Writing.{with_ties, weights}
 use Rattle.filter.specs.Checks.{place}
 use Rattle.filter.proofs.Joining.{tie_met}
-use Rattle.filter.proofs.Outcomes.{unrefused, same_found}
 use Rattle.filter.proofs.states.Draft.tie.Goals as goal
 
 pub returns-in-Err : goal.returns-in-Err

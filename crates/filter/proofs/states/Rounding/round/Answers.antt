@@ -1,7 +1,7 @@
 use Rattle.std.proofs.Common.{length, Ok}
+use Rattle.limits.proofs.Outcomes.{unrefused}
 use Rattle.filter.proofs.Keeps.{every_run}
 use Rattle.filter.proofs.Joining.{round_met}
-use Rattle.filter.proofs.Outcomes.{unrefused}
 use Rattle.filter.proofs.Rounds.{at_greatest, ready, few_left, made_round, made_smallest, made_kept, found_sound}
 use Rattle.filter.proofs.Staying.{made_sound}
 use Rattle.filter.proofs.states.Rounding.round.Goals as goal

@@ -1,9 +1,9 @@
 use Rattle.std.proofs.Common.{◌≡◌, ℕ, ◌*◌, Err, refl, ap, ◌∙◌, ap₂, arith}
 use Rattle.std.proofs.lemmas.Result.{err_from_is_err_and}
 use Rattle.std.proofs.lemmas.Bool.Decides.{not_from_Decides}
+use Rattle.limits.specs.Checking.{refused, passed}
 use Rattle.tile.specs.Shapes.{cells}
 use Rattle.passes.specs.Writing.{fresh, rewritten}
-use Rattle.filter.specs.Checks.{refused, passed}
 use Rattle.filter.proofs.Joining.{start_met}
 use Rattle.filter.proofs.states.draft_calls.start.Goals as goal
 

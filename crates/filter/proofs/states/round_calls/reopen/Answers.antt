@@ -1,5 +1,5 @@
 use Rattle.std.proofs.Common.{refl}
-use Rattle.filter.proofs.Outcomes.{unrefused}
+use Rattle.limits.proofs.Outcomes.{unrefused}
 use Rattle.filter.proofs.states.round_calls.reopen.Goals as goal
 
 pub returns : goal.returns

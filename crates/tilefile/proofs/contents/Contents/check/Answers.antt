@@ -1,5 +1,5 @@
 use Rattle.std.proofs.Common.{◌≡◌, refl, ap, ◌∙◌}
-use Rattle.filter.proofs.Outcomes.{none_found}
+use Rattle.limits.proofs.Outcomes.{none_found}
 use Rattle.tilefile.specs.Files.{FileChecked}
 use Rattle.tilefile.proofs.Wholes.{SectionsAre, contents_hold}
 use Rattle.tilefile.proofs.Entries.{broke, carried}

@@ -1,5 +1,5 @@
 use Rattle.std.proofs.Common.{◌≡◌, ap, ◌∙◌}
-use Rattle.filter.proofs.Outcomes.{mapped, none_found, unrefused}
+use Rattle.limits.proofs.Outcomes.{mapped, none_found, unrefused}
 use Rattle.tilefile.specs.Sections.{reading_place}
 use Rattle.tilefile.proofs.Entries.{broke, carried, no_rest}
 use Rattle.tilefile.proofs.Sections.{readings_mapped, ties_mapped}

@@ -5,8 +5,8 @@ use Rattle.tile.specs.declared.side.Side.TheVariants.{Rightward, Downward}
 use Rattle.tile.specs.Shapes.{cells}
 use Rattle.tile.specs.Tiles.{Tile}
 use Rattle.flow.specs.Points.{Cuttable}
-use Rattle.trial.specs.Checks.{SideFits, CellFits, AllFit}
-use Rattle.trial.proofs.checks.is_cuttable.Goals as goal
+use Rattle.flow.specs.Charts.{SideFits, CellFits, AllFit}
+use Rattle.flow.proofs.chart.is_cuttable.Goals as goal
 
 side_of : (s : Shape) (t : Tile) (u : ℕ) (d : Side) → u < cells s → Cuttable s t → SideFits s t u d
 side_of s t u d l k = record { tie = k.ties u d l; edge = k.edges u d l; bounded = k.flows.bounded u d l; idle = k.flows.idle u d l }

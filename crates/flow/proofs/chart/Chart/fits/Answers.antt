@@ -2,9 +2,9 @@ use Rattle.std.proofs.Common.{refl, subst, arith, rules}
 use borrow.Author.Tests.{tests}
 use Rattle.std.specs.Prelude.{ℕ, ◌<◌, ◌↔◌, IsTrue}
 use Rattle.std.proofs.lemmas.Iterator.{cases_from_all, YieldsList-from_range}
-use Rattle.trial.specs.Checks.{CellFits}
-use Rattle.trial.proofs.Walks.{all_below}
-use Rattle.trial.proofs.checks.Chart.fits.Goals as goal
+use Rattle.flow.specs.Charts.{CellFits}
+use Rattle.flow.proofs.Walks.{all_below}
+use Rattle.flow.proofs.chart.Chart.fits.Goals as goal
 
 pub returns : goal.returns
 returns c =

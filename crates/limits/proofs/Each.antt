@@ -1,7 +1,7 @@
 -- The checks of cells, one cell after the other.
 use Rattle.std.proofs.Common.{◌≡◌, ℕ, zero, suc, ◌<◌, ◌≤◌, ⊎_elim, subst, arith, below_more}
 use Rattle.std.proofs.lemmas.Bool.{cases_lt}
-use Rattle.filter.specs.Checks.{EachChecked}
+use Rattle.limits.specs.Checking.{EachChecked}
 
 -- with other outcomes
 pub each_mapped : (One One' : ℕ → Type 0 → Type 0) (Rest Rest' : Type 0) (n : ℕ) → ((u : ℕ) (R R' : Type 0) → (R → R') → One u R → One' u R') → (Rest → Rest') → EachChecked One n Rest → EachChecked One' n Rest'

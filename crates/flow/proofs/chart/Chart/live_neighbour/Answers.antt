@@ -1,7 +1,7 @@
 use Rattle.std.proofs.Common.{◌<◌, rules, arith}
 use Rattle.tile.specs.Shapes.{cells}
 use Rattle.tile.proofs.Joins.{found_inside}
-use Rattle.trial.proofs.checks.Chart.live_neighbour.Goals as goal
+use Rattle.flow.proofs.chart.Chart.live_neighbour.Goals as goal
 
 pub bounds-self-other : goal.bounds-self-other
 bounds-self-other c =

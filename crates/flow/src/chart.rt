@@ -8,7 +8,7 @@ use tile::{Cell, Shape, Side};
 
 // A tile with a record for each cell of its shape. A cell comes by its number: its ties lead to others of the same chart.
 #[derive(Drop)]
-pub(crate) struct Chart<'a> {
+pub struct Chart<'a> {
     pub shape: Shape,
     pub tile: &'a [Cell],
     pub ghost whole: { cells shape ≤ length tile.now },
@@ -21,10 +21,10 @@ impl<'a> Chart<'a> {
     ghost use Rattle.tile.specs.Ties.{neighbour_within};
     ghost use Rattle.tile.specs.Tiles.{cell};
     ghost use Rattle.flow.specs.Networks.{is_live};
-    ghost use Rattle.trial.specs.Checks.{SideFits, CellFits, AllFit};
+    ghost use Rattle.flow.specs.Charts.{SideFits, CellFits, AllFit};
 
     // The chart of a tile that has a record for each cell.
-    pub(crate) fn of(shape: Shape, tile: &'a [Cell]) -> Option<Chart<'a>>
+    pub fn of(shape: Shape, tile: &'a [Cell]) -> Option<Chart<'a>>
         ensures { MatchOption result (length tile.now < cells shape) (λ chart. (chart.shape ≡ shape) × (chart.tile.now ≡ tile.now)) }
     {
         if tile.len() < shape.cells() {
@@ -34,7 +34,7 @@ impl<'a> Chart<'a> {
     }
 
     // The neighbour on a side, where the tie to it is live.
-    pub(crate) fn live_neighbour(&self, at: usize, side: Side) -> Option<usize>
+    pub fn live_neighbour(&self, at: usize, side: Side) -> Option<usize>
         requires { at < cells self.now.shape }
         ensures live { IsSome result ↔ IsTrue (is_live self.now.shape self.now.tile.now at side) }
         ensures found { IfSome result (λ other. Some other ≡ neighbour_within self.now.shape at side) }
@@ -47,7 +47,7 @@ impl<'a> Chart<'a> {
     }
 
     // The weight of the tie on a side, where it is live; else 0, as of no tie.
-    pub(crate) fn live_weight(&self, at: usize, side: Side) -> u16
+    pub fn live_weight(&self, at: usize, side: Side) -> u16
         requires { at < cells self.now.shape }
         ensures { result ≡ (if is_live self.now.shape self.now.tile.now at side then stored_tie (cell self.now.tile.now at) side else 0) }
     {

@@ -1,0 +1,44 @@
+// Solving a tile file into a list of heights.
+ghost use Rattle.std.specs.Prelude.{◌≡◌, ◌≤◌, length};
+ghost use Rattle.limits.specs.declared.refusal.Refusal.TheVariants.{FewRecords};
+ghost use Rattle.limits.specs.Checking.{Checked};
+ghost use Rattle.tile.specs.Shapes.{cells};
+ghost use Rattle.filter.specs.Calls.{KeptIfRefused};
+ghost use Rattle.report.specs.Copying.{SolveFileIntoDoes};
+
+use crate::refusing::FileRefusal;
+use crate::solving::{Solution, check_room, solve_by_letter};
+use flow::CutMaker;
+use passes::copy_low_ends;
+use tile::{Cell, Refusal, Shape};
+use tilefile::Contents;
+
+// Is there a place for each height?
+fn check_places(shape: Shape, places: usize) -> Result<(), Refusal>
+    ensures { Checked 2 FewRecords (cells shape ≤ places) (λ e. result ≡ Err e) (result ≡ Ok tt) }
+{
+    if places < shape.cells() {
+        return Err(Refusal::FewRecords);
+    }
+    Ok(())
+}
+
+// Solves a tile file as `solve_file` does, and copies the heights, row by row, into a list of the host's. It is refused for fewer
+// places in the list than the tile has cells, too.
+pub fn solve_file_into<M: CutMaker>(
+    bytes: &[u8],
+    tile: &mut [Cell],
+    maker: &M,
+    entries: &mut [M::Entry],
+    heights: &mut [u16],
+) -> Result<Solution, FileRefusal>
+    ensures does { SolveFileIntoDoes bytes.now tile.old (length entries.old) heights.old result tile.new heights.new }
+    ensures workspace { KeptIfRefused result entries.old entries.new }
+{
+    let contents = Contents::check(bytes, tile.len())?;
+    check_places(contents.shape(), heights.len())?;
+    check_room(contents.shape(), entries.len())?;
+    let solution = solve_by_letter(&contents, tile, maker, entries);
+    copy_low_ends(contents.shape(), tile, heights);
+    Ok(solution)
+}

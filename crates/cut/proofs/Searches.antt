@@ -1,6 +1,6 @@
 -- Searches: ranks, and one more cell among the waiting.
 use Rattle.std.proofs.Common.{◌≡◌, ℕ, ◌+◌, ◌-◌, ◌<◌, ◌≤◌, cond, ltb, ◌⊎◌, List, [], ◌∷◌, ◌++◌, length, ℤ, pos, ◌<ℤ◌, sym, refl, ap, ◌∙◌, subst, inl, inr, ⊎_elim, arith, length-set}
-use Rattle.std.proofs.lemmas.List.{get_or-set_same, get_or-set_other, length_push}
+use Rattle.std.proofs.lemmas.List.{set-get_or, get_or-set_same, get_or-set_other, length_push}
 use Rattle.std.proofs.ByRecursion.{All-push, All-weaker}
 use Rattle.std.proofs.lemmas.List.Sums.{sum_by-set, count_by-le-length}
 use Rattle.std.proofs.lemmas.Bool.{cases_eq, lt-ltb, le-ltb}
@@ -44,6 +44,10 @@ rank_here t v r l = ap (λ (x : Cell). x.rank) (get_or-set_same t v (with_rank r
 
 pub rank_other : (t : Tile) (v r x : ℕ) → (x ≡ v → ⊥) → rank_of (ranked_at t v r) x ≡ rank_of t x
 rank_other t v r x n = ap (λ (x : Cell). x.rank) (get_or-set_other t v x (with_rank r (cell t v)) blank n)
+
+-- no rank is written over none
+pub ranked_same : (t : Tile) (v : ℕ) → rank_of t v ≡ 0 → ranked_at t v 0 ≡ t
+ranked_same t v z = ap (λ (r : ℕ). ranked_at t v r) (sym z) ∙ set-get_or t v blank
 
 pub count_up : (t : Tile) (v r : ℕ) → v < length t → rank_of t v ≡ 0 → 0 < r → ranked (ranked_at t v r) ≡ ranked t + 1
 count_up t v r l z p =

@@ -34,3 +34,8 @@ settled_swept f f1 f2 r e s z =
 
 pub relieved_swept : (f f' : Flows) (r : Bool) → InPlace (λ c t t'. Swept c t t' r) f f' → r ≡ true → InPlace Relieved f f'
 relieved_swept f f' r s e = record { rows = s.rows; holds = s.holds.met e }
+
+pub eased_settled : (f f1 f2 : Flows) → InPlace Eased f f1 → InPlace Settled f1 f2 → InPlace Settled f f2
+eased_settled =
+    in_place_then Eased Settled Settled
+    (λ c t t1 t2 a b. record { eased = eased_trans c t t1 t2 a b.eased; ranked = b.ranked; no_surplus = b.no_surplus })

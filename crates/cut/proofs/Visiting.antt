@@ -1,13 +1,13 @@
 -- One more cell in a search, with entries of any kind.
 use Rattle.std.specs.Prelude.{⊤}
-use Rattle.std.proofs.Common.{◌≡◌, ℕ, ◌+◌, ◌-◌, ◌<◌, ◌≤◌, ◌⊎◌, List, [], ◌∷◌, ◌++◌, map, length, ℤ, pos, ◌<ℤ◌, Some, None, Option, Ok, Err, Result, get_or, below_more, refl, sym, ap, ◌∙◌, subst, inl, inr, ⊎_elim, arith}
+use Rattle.std.proofs.Common.{◌≡◌, ℕ, ◌+◌, ◌-◌, ◌<◌, ◌≤◌, cond, int_lt, ◌⊎◌, List, [], ◌∷◌, ◌++◌, map, length, ℤ, pos, ◌<ℤ◌, Bool, true, false, Some, None, Option, Ok, Err, Result, get_or, below_more, refl, sym, ap, ◌∙◌, subst, inl, inr, ⊎_elim, arith}
 use Rattle.std.specs.List.{AllByRecursion as All}
 use Rattle.std.proofs.lemmas.List.{length_push, length-map, map_push}
 use Rattle.std.proofs.ByRecursion.{All-push, All-weaker}
 use Rattle.std.proofs.lemmas.Bool.{cases_eq}
 use Rattle.std.proofs.lemmas.Int.{ints}
-use Rattle.queue.proofs.Waits.{last_with_room}
-use Rattle.queue.specs.Queue.{waits, capacity, Enqueued, Dequeued}
+use Rattle.queue.proofs.Waits.{last_with_room, wanted_with_room, unwanted_same}
+use Rattle.queue.specs.Queue.{waits, capacity, Enqueued, EnqueuedIf, Dequeued}
 use Rattle.queue.specs.declared.Queue.{Queue}
 use Rattle.flow.specs.declared.direction.Direction.{Direction}
 use Rattle.flow.specs.declared.direction.Direction.TheVariants.{Right}
@@ -21,9 +21,10 @@ use Rattle.flow.specs.Lent.{SameRows}
 use Rattle.cut.specs.Lent.{Leveled}
 use Rattle.cut.proofs.Directions.{ways, every_way}
 use Rattle.cut.proofs.Lent.{leveled_self, leveled_trans}
-use Rattle.flow.proofs.Fields.{remains_level}
+use Rattle.flow.proofs.Tests.{less_true, less_false}
+use Rattle.flow.proofs.Fields.{level_self, remains_level}
 use Rattle.flow.proofs.Pushes.{room_there, back_across}
-use Rattle.cut.proofs.Searches.{level_ranked, rank_here, rank_other, count_up, not_all, among_old, among_new, grows_ranked, grows_self, grows_trans, spread_grows, search_put, search_done, search_add, seen_more, begin_not}
+use Rattle.cut.proofs.Searches.{level_ranked, ranked_same, rank_here, rank_other, count_up, not_all, among_old, among_new, grows_ranked, grows_self, grows_trans, spread_grows, search_put, search_done, search_add, seen_more, begin_not}
 
 -- for entries of any kind, by the cell of an entry and the direction back
 module _ {X : Type 0} (spot : X → ℕ) (came : X → Option Direction) where
@@ -117,6 +118,11 @@ module _ {X : Type 0} (spot : X → ℕ) (came : X → Option Direction) where
   pub inside_more : (n : ℕ) (q q' : Queue X) (e : X) (b : Result ⊤ X) → Enqueued q q' e b → spot e < n → All (λ x. spot x < n) (waits q) → All (λ x. spot x < n) (waits q')
   inside_more n q q' e (Ok _) p l a = subst (All (λ x. spot x < n)) (sym p.last) (All-push (λ x. spot x < n) (waits q) e a l)
   inside_more n q q' e (Err _) p l a = subst (λ (k : Queue X). All (λ x. spot x < n) (waits k)) (sym p.unchanged.1) a
+
+  -- .. or where it is wanted
+  pub inside_more_if : (n : ℕ) (q q' : Queue X) (e : X) (w b : Bool) → EnqueuedIf q q' e w b → spot e < n → All (λ x. spot x < n) (waits q) → All (λ x. spot x < n) (waits q')
+  inside_more_if n q q' e w true p l a = subst (All (λ x. spot x < n)) (sym p.last) (All-push (λ x. spot x < n) (waits q) e a l)
+  inside_more_if n q q' e w false p l a = subst (All (λ x. spot x < n)) (sym p.last) a
 
   pub goes_none : (e : X) (h : Direction) (f : Flows) (r : Queue X) → (BackTo f.columns f.tile.now (spot e) (came e) → pos 0 <ℤ room f.tile.now f.columns h (spot e) → 0 < rank_of f.tile.now (beside f.columns h (spot e))) → Goes spot came e h f f r r
   goes_none e h f r d = record { level = leveled_self f; rooms = refl; inside = λ a. a; search = λ k. visited_none f.columns (spot e) h (came e) f.tile.now r k (d k.back_to) }
@@ -213,12 +219,12 @@ module _ {X : Type 0} (spot : X → ℕ) (came : X → Option Direction) where
   turning_less f f1 f2 r r1 r2 s k d g = load_pop f1.columns f1.tile.now f2.tile.now r r1 r2 s d.first (g.search (turning_looks f f1 r r1 s k d))
 
   -- one more deficit cell
-  begin_root : (c : ℕ) (t t' : Tile) (r r' : Queue X) (s : X) (i n : ℕ) (b : Result ⊤ X) → Searching c t (spots spot r) i → length t ≤ capacity r → i < length t → n ≡ length t → rank_of t i ≡ 0 → InDeficit t c i → t' ≡ ranked_at t i n → Enqueued r r' s b → spot s ≡ i → Searching c t' (spots spot r') (i + 1) × (waits r' ≡ waits r ++ s ∷ [])
+  begin_root : (c : ℕ) (t t' : Tile) (r r' : Queue X) (s : X) (i n : ℕ) (b : Bool) → Searching c t (spots spot r) i → length t ≤ capacity r → i < length t → n ≡ length t → rank_of t i ≡ 0 → InDeficit t c i → t' ≡ ranked_at t i n → EnqueuedIf r r' s true b → spot s ≡ i → Searching c t' (spots spot r') (i + 1) × (waits r' ≡ waits r ++ s ∷ [])
   begin_root c t t' r r' s i n b k f l ne z sh te p se =
       let na = not_all t i l z in
       let t1 : Tile = ranked_at t i n in
       let len = length-map (waits r) spot in
-      let q = last_with_room r r' s b p (omega (arith, k.few)) in
+      let q = wanted_with_room r r' s b p (omega (arith, k.few)) in
       let qs : spots spot r' ≡ spots spot r ++ i ∷ [] = ap (map spot) q ∙ map_push spot (waits r) s ∙ ap (λ (x : ℕ). spots spot r ++ x ∷ []) se in
       let sh' : InDeficit t1 c i = subst (λ (x : ℤ). x <ℤ pos 0) (sym (remains_level t t1 (level_ranked t i n) c i)) sh in
       let a : Searching c t1 (spots spot r ++ i ∷ []) i = search_add c t (spots spot r) i i n k l z (omega arith) (omega arith) (omega arith) (inl sh') in
@@ -237,17 +243,20 @@ module _ {X : Type 0} (spot : X → ℕ) (came : X → Option Direction) where
     pub back : All (λ s. came s ≡ None) (waits r')
     pub roots : (b : ℕ) → 0 < rank_of f'.tile.now b → InDeficit f'.tile.now f'.columns b
 
-  pub beginning_not : (u : ℕ) (f f' : Flows) (r r' : Queue X) → Beginning u f f' r r' → (InDeficit f'.tile.now f'.columns u → ⊥) → Beginning (u + 1) f f' r r'
-  beginning_not u f f' r r' k n = record {
-    level = k.level;
-    search = begin_not f'.columns f'.tile.now (spots spot r') u k.search n;
-    none = λ b l. k.none b (omega arith);
-    rooms = k.rooms;
-    back = k.back;
-    roots = k.roots;
-  }
+  pub beginning_not : (u : ℕ) (f f1 f2 : Flows) (r r1 r2 : Queue X) (s : X) (b : Bool) → Beginning u f f1 r r1 → (InDeficit f1.tile.now f1.columns u → ⊥) → SameRows f1 f2 → f2.tile.now ≡ ranked_at f1.tile.now u 0 → EnqueuedIf r1 r2 s false b → Beginning (u + 1) f f2 r r2
+  beginning_not u f f1 f2 r r1 r2 s b k n rows te p =
+      let e : f2.tile.now ≡ f1.tile.now = te ∙ ranked_same f1.tile.now u (k.none u (omega arith)) in
+      let q : waits r2 ≡ waits r1 = unwanted_same r1 r2 s b p in
+      record {
+        level = leveled_trans f f1 f2 k.level (record { rows = rows; holds = subst (SameFlows f1.tile.now) (sym e) (level_self f1.tile.now) });
+        search = rw (rows.columns, e, q) (begin_not f1.columns f1.tile.now (spots spot r1) u k.search n);
+        none = λ x l. rw e (k.none x (omega arith));
+        rooms = p.room ∙ k.rooms;
+        back = subst (All (λ y. came y ≡ None)) (sym q) k.back;
+        roots = λ x px. rw (rows.columns, e) (k.roots x (subst (λ (y : Tile). 0 < rank_of y x) e px));
+      }
 
-  pub beginning_root : (u n : ℕ) (f f1 f2 : Flows) (r r1 r2 : Queue X) (s : X) (b : Result ⊤ X) → Beginning u f f1 r r1 → length f.tile.now ≤ capacity r → u < length f.tile.now → n ≡ length f.tile.now → InDeficit f1.tile.now f1.columns u → SameRows f1 f2 → f2.tile.now ≡ ranked_at f1.tile.now u n → Enqueued r1 r2 s b → spot s ≡ u → came s ≡ None → Beginning (u + 1) f f2 r r2
+  pub beginning_root : (u n : ℕ) (f f1 f2 : Flows) (r r1 r2 : Queue X) (s : X) (b : Bool) → Beginning u f f1 r r1 → length f.tile.now ≤ capacity r → u < length f.tile.now → n ≡ length f.tile.now → InDeficit f1.tile.now f1.columns u → SameRows f1 f2 → f2.tile.now ≡ ranked_at f1.tile.now u n → EnqueuedIf r1 r2 s true b → spot s ≡ u → came s ≡ None → Beginning (u + 1) f f2 r r2
   beginning_root u n f f1 f2 r r1 r2 s b k room l ne sh rows te p se nb =
       let long = k.level.holds.long in
       let z = k.none u (omega arith) in
@@ -266,6 +275,11 @@ module _ {X : Type 0} (spot : X → ℕ) (came : X → Option Direction) where
             (λ (e : x ≡ u → ⊥). same x (k.roots x (subst (λ (y : ℕ). 0 < y) (ap (λ (y : Tile). rank_of y x) te ∙ rank_other f1.tile.now u n x e) px)))
             (cases_eq x u);
       }
+
+  -- one more cell, in deficit or not
+  pub beginning_next : (u n m : ℕ) (f f1 f2 : Flows) (r r1 r2 : Queue X) (s : X) (w b : Bool) → Beginning u f f1 r r1 → length f.tile.now ≤ capacity r → u < length f.tile.now → n ≡ length f.tile.now → w ≡ int_lt (remains f1.tile.now f1.columns u) (pos 0) → m ≡ cond w n 0 → SameRows f1 f2 → f2.tile.now ≡ ranked_at f1.tile.now u m → EnqueuedIf r1 r2 s w b → spot s ≡ u → came s ≡ None → Beginning (u + 1) f f2 r r2
+  beginning_next u n m f f1 f2 r r1 r2 s true b k room l ne sh me rows te p se nb = beginning_root u n f f1 f2 r r1 r2 s b k room l ne (less_true _ _ (sym sh)) rows (te ∙ ap (ranked_at f1.tile.now u) me) p se nb
+  beginning_next u n m f f1 f2 r r1 r2 s false b k room l ne sh me rows te p se nb = beginning_not u f f1 f2 r r1 r2 s b k (less_false _ _ (sym sh)) rows (te ∙ ap (ranked_at f1.tile.now u) me) p
 
   pub beginning_done : (u : ℕ) (f f' : Flows) (r r' : Queue X) → Beginning u f f' r r' → length f.tile.now ≤ capacity r → u ≡ length f.tile.now → Started spot came f'.columns f'.tile.now r'
   beginning_done u f f' r r' k room ue =

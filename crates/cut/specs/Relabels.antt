@@ -1,14 +1,10 @@
--- Push-relabel: the rank of a cell that is still in surplus, and what its steps keep.
+-- Push-relabel: the rank of a cell that is still in surplus.
 use Rattle.std.specs.Prelude.{ℕ, ◌-◌, max, cond, length, pos, int_lt}
 use Rattle.tile.specs.Tiles.{Tile}
 use Rattle.flow.specs.declared.direction.Direction.{Direction}
 use Rattle.flow.specs.declared.direction.Direction.TheVariants.{Right, Down, Left, Up}
-use Rattle.flow.specs.declared.flows.Flows.{Flows}
-use Rattle.flow.specs.Lent.{SameRows}
-use Rattle.flow.specs.Sides.{beside, has_beside, opposite, room, Eased}
-use Rattle.queue.specs.declared.Queue.{Queue}
+use Rattle.flow.specs.Sides.{beside, has_beside, opposite, room}
 use Rattle.cut.specs.Ranks.{rank_of}
-use Rattle.cut.specs.Searches.{AllInside}
 
 -- the rank of the cell in this direction, where a residual arc leads from it to v; else 0
 abbrev pub rank_beside : Tile → ℕ → ℕ → Direction → ℕ
@@ -17,9 +13,3 @@ rank_beside t c v h = cond (has_beside c (length t) h v) (cond (int_lt (pos 0) (
 -- one less than the highest of these, and 0 where there is none
 abbrev pub lower_rank : Tile → ℕ → ℕ → ℕ
 lower_rank t c v = max (max (rank_beside t c v Right) (rank_beside t c v Down)) (max (rank_beside t c v Left) (rank_beside t c v Up)) - 1
-
--- the same records are borrowed, flow has moved with no cell further below 0, and cells have come to wait
-pub record Eases (f f' : Flows) (q q' : Queue ℕ) : Type 0 where
-  pub rows : SameRows f f'
-  pub eased : Eased f.columns f.tile.now f'.tile.now
-  pub inside : AllInside (λ x. x) f.tile.now q → AllInside (λ x. x) f.tile.now q'

@@ -7,7 +7,8 @@ use Rattle.queue.specs.Queue.{waits, capacity}
 use Rattle.tile.specs.Tiles.{Tile}
 use Rattle.flow.specs.declared.direction.Direction.{Direction}
 use Rattle.flow.specs.declared.flows.Flows.{Flows}
-use Rattle.flow.specs.Sides.{beside, room, InDeficit, InSurplus, SameFlows}
+use Rattle.flow.specs.Sides.{beside, room, InDeficit, InSurplus, SameFlows, Eased}
+use Rattle.flow.specs.Lent.{SameRows}
 use Rattle.cut.specs.Ranks.{rank_of, ranked}
 use Rattle.cut.specs.Lent.{Leveled}
 
@@ -79,6 +80,12 @@ Backed spot came c t e = BackTo c t (spot e) (came e)
 -- every cell that waits is a cell
 abbrev pub AllInside : {X : Type 0} → (X → ℕ) → Tile → Queue X → Type 0
 AllInside spot t q = AllByRecursion (λ e. spot e < length t) (waits q)
+
+-- the same records are borrowed, flow has moved with no cell further below 0, and cells have come to wait
+pub record Eases {X : Type 0} (spot : X → ℕ) (f f' : Flows) (q q' : Queue X) : Type 0 where
+  pub rows : SameRows f f'
+  pub eased : Eased f.columns f.tile.now f'.tile.now
+  pub inside : AllInside spot f.tile.now q → AllInside spot f.tile.now q'
 
 -- u has been fetched, and the search is to go on from it
 pub record Looks {X : Type 0} (spot : X → ℕ) (came : X → Option Direction) (c u : ℕ) (from : Option Direction) (t : Tile) (q : Queue X) : Type 0 where

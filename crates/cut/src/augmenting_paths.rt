@@ -1,14 +1,15 @@
 // Augmenting paths: flow runs along a shortest residual path from a deficit cell to a surplus cell.
-ghost use Rattle.std.specs.Prelude.{◌<◌, ◌≤◌, length};
+ghost use Rattle.std.specs.Prelude.{◌≡◌, ◌+◌, ◌/◌, ◌<◌, ◌≤◌, length};
 ghost use Rattle.flow.specs.Sides.{InSurplus, Eased};
 ghost use Rattle.cut.specs.declared.entry.Step.{Step as Record};
 ghost use Rattle.cut.specs.Ranks.{rank_of};
 ghost use Rattle.cut.specs.Lent.{InPlace, Leveled};
-ghost use Rattle.cut.specs.Searches.{Started, AllInside};
+ghost use Rattle.cut.specs.Searches.{Started, AllInside, Eases};
 ghost use Rattle.cut.specs.Climbs.{Above, Relieved, Sought, Swept};
 
-use crate::climb::{carry, climb};
+use crate::climb::{carry, climb, dead_end, is_ranked_surplus};
 use crate::entry::Step;
+use crate::ranks::put_rank;
 use crate::search::{start_search, visit_all};
 use flow::Flows;
 use queue::Queue;
@@ -29,39 +30,105 @@ fn seek(flows: &mut Flows, queue: &mut Queue<Step>) -> Option<Step>
     None
 }
 
-// Pushes over the path to u if u is in surplus. Answers how long the path is, if it is blocked.
-fn push_path(flows: &mut Flows, u: usize) -> Option<usize>
+// Pushes over a path to u, if u is in surplus and a path is open.
+fn push_path(flows: &mut Flows, u: usize)
     requires { u < length flows.old.tile.now }
     ensures eased { InPlace Eased flows.old flows.new }
     ensures fewer { InSurplus flows.old.tile.now flows.old.columns u → Above flows.old.columns flows.old.tile.now (rank_of flows.old.tile.now u) → InPlace Relieved flows.old flows.new }
 {
     if flows.remainder(u) <= 0 {
-        return None;
+        return;
     }
-    let Some(f) = carry(flows, u) else {
-        return Some(flows.tile.len().saturating_sub(flows.tile[u].rank as usize) + 1);
-    };
-    climb(flows, u, f);
-    None
+    if let Some(f) = carry(flows, u) {
+        climb(flows, u, f);
+    }
 }
 
-// Goes on with the search, and pushes over what paths are left, until many are blocked. The turns are counted, as nothing else
-// bounds them.
-fn go_on(flows: &mut Flows, queue: &mut Queue<Step>)
-    requires { AllInside (λ (s : Record). s.cell) flows.old.tile.now queue.old }
+// How many dead ends may be met before the next push; then the search is given up, and a new one starts.
+fn patience(flows: &Flows) -> usize
+    ensures { result ≡ length flows.now.tile.now / 32 + 1 }
+{
+    flows.tile.len() / 32 + 1
+}
+
+// Takes away the rank of each cell at which a way up from u over ever higher ranks ends, until one leads to a deficit cell or u
+// has no rank itself. Answers how many more dead ends may be met.
+fn clear_way(flows: &mut Flows, u: usize, most: usize) -> usize
+    requires { u < length flows.old.tile.now }
     ensures { InPlace Eased flows.old flows.new }
 {
-    let n = flows.tile.len();
-    let mut left = n / 4 + 1;
-    for _ in 0..n {
+    let mut from = u;
+    for left in (0..most).rev() {
+        let Some((end, before)) = dead_end(flows, from) else {
+            return left + 1;
+        };
+        put_rank(flows, end, 0);
+        if end == u {
+            return left;
+        }
+        from = if before == end { u } else { before };
+    }
+    0
+}
+
+// Pushes over a path to u, if there is one. Answers how many dead ends may be met before the next push.
+fn try_path(flows: &mut Flows, u: usize, most: usize) -> usize
+    requires { u < length flows.old.tile.now }
+    ensures { InPlace Eased flows.old flows.new }
+{
+    let left = clear_way(flows, u, most);
+    if left == 0 || flows.tile[u].rank == 0 {
+        return left;
+    }
+    push_path(flows, u);
+    patience(flows)
+}
+
+// Pushes over one path after the other to u, until u is in surplus no more, or no path to it is left, or too many dead ends have
+// been met. Answers how many more may be. The turns are counted, as nothing else bounds them.
+fn push_paths(flows: &mut Flows, u: usize, most: usize) -> usize
+    requires { u < length flows.old.tile.now }
+    ensures { InPlace Eased flows.old flows.new }
+{
+    let mut left = most;
+    for _ in 0..flows.tile.len() {
+        if left == 0 || !is_ranked_surplus(flows, u) {
+            return left;
+        }
+        left = try_path(flows, u, left);
+    }
+    left
+}
+
+// Pushes over all paths to the cell of the step, and goes on with the search from there if it still has a rank.
+fn serve(flows: &mut Flows, queue: &mut Queue<Step>, step: Step, most: usize) -> usize
+    requires { step.cell < length flows.old.tile.now }
+    ensures { Eases (λ (s : Record). s.cell) flows.old flows.new queue.old queue.new }
+{
+    let left = push_paths(flows, step.cell as usize, most);
+    if flows.tile[step.cell as usize].rank > 0 {
+        visit_all(flows, queue, step);
+    }
+    left
+}
+
+// Goes on with the search from a cell, and pushes over all paths on the way, until too many dead ends have been met. The turns
+// are counted, as nothing else bounds them.
+fn go_on(flows: &mut Flows, queue: &mut Queue<Step>, met: Step)
+    requires place { met.cell < length flows.old.tile.now }
+    requires inside { AllInside (λ (s : Record). s.cell) flows.old.tile.now queue.old }
+    ensures { InPlace Eased flows.old flows.new }
+{
+    let most = patience(flows);
+    let mut left = serve(flows, queue, met, most);
+    for _ in 0..flows.tile.len() {
         if left == 0 {
             return;
         }
         let Some(step) = queue.dequeue() else {
             return;
         };
-        left = left.saturating_sub(push_path(flows, step.cell as usize).unwrap_or(0));
-        visit_all(flows, queue, step);
+        left = serve(flows, queue, step, left);
     }
 }
 
@@ -75,8 +142,7 @@ pub(crate) fn sweep(flows: &mut Flows, work: &mut [Step]) -> bool
     let Some(met) = seek(flows, &mut queue) else {
         return false;
     };
-    let _ = push_path(flows, met.cell as usize);
-    visit_all(flows, &mut queue, met);
-    go_on(flows, &mut queue);
+    push_path(flows, met.cell as usize);
+    go_on(flows, &mut queue, met);
     true
 }

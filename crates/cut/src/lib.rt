@@ -5,6 +5,7 @@ mod augmenting_paths;
 mod climb;
 pub mod entry;
 pub mod makers;
+mod pairing;
 mod push_relabel;
 mod ranks;
 mod search;

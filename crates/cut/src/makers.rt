@@ -7,6 +7,7 @@ ghost use Rattle.cut.specs.Lent.{InPlace};
 ghost use Rattle.cut.specs.Climbs.{Settled, Swept};
 
 use crate::entry::Step;
+use crate::pairing::pair_up;
 use crate::ranks::mark_all;
 use crate::{augmenting_paths, push_relabel};
 use flow::Flows;
@@ -25,11 +26,20 @@ trait Sweep {
 }
 
 // Sweeps until no surplus cell is met.
-fn settle<S: Sweep>(flows: &mut Flows, work: &mut [S::Entry])
+fn sweep_all<S: Sweep>(flows: &mut Flows, work: &mut [S::Entry])
     requires { length flows.old.tile.now ≤ length work.old }
     ensures { InPlace Settled flows.old flows.new }
 {
     while S::sweep(flows, work) {}
+}
+
+// Settles the flows, first between neighbours and then by sweeps.
+fn settle<S: Sweep>(flows: &mut Flows, work: &mut [S::Entry])
+    requires { length flows.old.tile.now ≤ length work.old }
+    ensures { InPlace Settled flows.old flows.new }
+{
+    pair_up(flows);
+    sweep_all::<S>(flows, work);
 }
 
 // Settles the flows of a whole list of records.

@@ -4,9 +4,9 @@ ghost use Rattle.flow.specs.Sides.{Eased};
 ghost use Rattle.flow.specs.Lent.{SameRows};
 ghost use Rattle.cut.specs.Ranks.{ranked_at};
 ghost use Rattle.cut.specs.Lent.{InPlace};
-ghost use Rattle.cut.specs.Searches.{AllInside};
+ghost use Rattle.cut.specs.Searches.{AllInside, Eases};
 ghost use Rattle.cut.specs.Climbs.{Swept};
-ghost use Rattle.cut.specs.Relabels.{rank_beside, lower_rank, Eases};
+ghost use Rattle.cut.specs.Relabels.{rank_beside, lower_rank};
 
 use crate::climb::{above, climb, first_surplus, is_ranked_surplus};
 use crate::ranks::put_rank;
@@ -18,10 +18,46 @@ use queue::Queue;
 // As much as any tie takes.
 const MOST: i32 = 2 * MAX_TIE as i32;
 
+// v draws what it can from the cell in one direction, if that is one rank higher.
+fn pass(flows: &mut Flows, v: usize, toward: Direction)
+    requires { v < length flows.old.tile.now }
+    ensures { InPlace Eased flows.old flows.new }
+{
+    if let Some(u) = above(flows, v, toward) {
+        let _ = flows.send(u, toward.opposite(), MOST);
+    }
+}
+
+// A surplus cell draws in all directions, if it has a rank: its surplus passes on to cells one rank higher.
+fn pass_on(flows: &mut Flows, v: usize)
+    requires { v < length flows.old.tile.now }
+    ensures { InPlace Eased flows.old flows.new }
+{
+    if is_ranked_surplus(flows, v) {
+        pass(flows, v, Direction::Right);
+        pass(flows, v, Direction::Down);
+        pass(flows, v, Direction::Left);
+        pass(flows, v, Direction::Up);
+    }
+}
+
+// Goes over the cells in the order in which a search reached them, from the last to the first, so that what a cell passes on
+// is passed on again. The order is one to go by and no more: what is no cell's number is left out.
+fn pass_all(flows: &mut Flows, order: &[u16])
+    ensures { InPlace Eased flows.old flows.new }
+{
+    for v in order.iter().rev() {
+        let v = usize::from(*v);
+        if v < flows.tile.len() {
+            pass_on(flows, v);
+        }
+    }
+}
+
 // v draws what it can from the cell in one direction, if that is one rank higher; if that comes into surplus, it waits.
 fn draw(flows: &mut Flows, queue: &mut Queue<u16>, v: usize, toward: Direction)
     requires { v < length flows.old.tile.now }
-    ensures { Eases flows.old flows.new queue.old queue.new }
+    ensures { Eases (λ x. x) flows.old flows.new queue.old queue.new }
 {
     let Some(u) = above(flows, v, toward) else {
         return;
@@ -36,7 +72,7 @@ fn draw(flows: &mut Flows, queue: &mut Queue<u16>, v: usize, toward: Direction)
 // v draws in all directions.
 fn draw_all(flows: &mut Flows, queue: &mut Queue<u16>, v: usize)
     requires { v < length flows.old.tile.now }
-    ensures { Eases flows.old flows.new queue.old queue.new }
+    ensures { Eases (λ x. x) flows.old flows.new queue.old queue.new }
 {
     for toward in Direction::ALL {
         draw(flows, queue, v, toward);
@@ -73,7 +109,7 @@ fn lower(flows: &mut Flows, v: usize)
 // Answers whether its rank was lowered.
 fn relieve(flows: &mut Flows, queue: &mut Queue<u16>, v: usize) -> bool
     requires { v < length flows.old.tile.now }
-    ensures { Eases flows.old flows.new queue.old queue.new }
+    ensures { Eases (λ x. x) flows.old flows.new queue.old queue.new }
 {
     draw_all(flows, queue, v);
     if flows.remainder(v) <= 0 {
@@ -92,9 +128,8 @@ fn collect(flows: &Flows, queue: &mut Queue<u16>)
     ensures { AllInside (λ x. x) flows.now.tile.now queue.new }
 {
     for u in 0..flows.tile.len() {
-        if is_ranked_surplus(flows, u) {
-            let _ = queue.enqueue(u as u16);
-        }
+        let wanted = is_ranked_surplus(flows, u);
+        let _ = queue.enqueue_if(u as u16, wanted);
     }
 }
 
@@ -105,7 +140,7 @@ fn drain(flows: &mut Flows, work: &mut [u16])
     let n = flows.tile.len();
     let mut queue = Queue::new(work);
     collect(flows, &mut queue);
-    let mut left = n / 4 + 1;
+    let mut left = n / 8 + 1;
     for _ in 0..n * 64 {
         if left == 0 {
             return;
@@ -119,8 +154,8 @@ fn drain(flows: &mut Flows, work: &mut [u16])
     }
 }
 
-// Ranks the cells anew; if a surplus cell has a rank, relieves that one and then others. Answers whether one had; then
-// flow has moved.
+// Ranks the cells anew; if a surplus cell has a rank, relieves that one and then others: in one pass over all cells, and then one
+// by one. Answers whether one had; then flow has moved.
 pub(crate) fn sweep(flows: &mut Flows, work: &mut [u16]) -> bool
     requires { length flows.old.tile.now ≤ length work.old }
     ensures { InPlace (λ c t t'. Swept c t t' result) flows.old flows.new }
@@ -130,6 +165,7 @@ pub(crate) fn sweep(flows: &mut Flows, work: &mut [u16]) -> bool
         return false;
     };
     climb(flows, v, MOST);
+    pass_all(flows, &work[0..flows.tile.len()]);
     drain(flows, work);
     true
 }

@@ -1,5 +1,5 @@
 // The search that ranks every cell which residual arcs reach from a deficit cell.
-ghost use Rattle.std.specs.Prelude.{◌≡◌, ℕ, ◌<◌, ◌≤◌, [], length};
+ghost use Rattle.std.specs.Prelude.{◌≡◌, ℕ, ◌<◌, ◌≤◌, if◌then◌else◌, [], length};
 ghost use Rattle.queue.specs.Queue.{waits, capacity};
 ghost use Rattle.cut.specs.Ranks.{rank_of};
 ghost use Rattle.cut.specs.Lent.{Leveled};
@@ -48,7 +48,15 @@ pub(crate) fn visit_all<E: Entry>(flows: &mut Flows, queue: &mut Queue<E>, entry
     visit(flows, queue, entry, Direction::Up);
 }
 
-// Ranks the deficit cells, and has them wait. It goes by number, since a cell's number is what waits.
+// The rank of a cell from which a search starts, and of one not yet reached.
+fn first_rank(highest: u16, root: bool) -> u16
+    ensures { result ≡ (if root then highest else 0) }
+{
+    if root { highest } else { 0 }
+}
+
+// Ranks the deficit cells, and has them wait. It goes by number, since a cell's number is what waits, and writes every rank: a
+// branch on whether a cell is in deficit would be guessed wrong too often.
 fn begin<E: Entry>(flows: &mut Flows, queue: &mut Queue<E>)
     requires none { (b : ℕ) → rank_of flows.old.tile.now b ≡ 0 }
     requires idle { waits queue.old ≡ [] }
@@ -58,10 +66,9 @@ fn begin<E: Entry>(flows: &mut Flows, queue: &mut Queue<E>)
 {
     let n = flows.tile.len();
     for u in 0..n {
-        if flows.in_deficit(u) {
-            put_rank(flows, u, n as u16);
-            let _ = queue.enqueue(E::root(u as u16));
-        }
+        let root = flows.in_deficit(u);
+        put_rank(flows, u, first_rank(n as u16, root));
+        let _ = queue.enqueue_if(E::root(u as u16), root);
     }
 }
 

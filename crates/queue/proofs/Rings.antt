@@ -29,18 +29,29 @@ written_before xs head len at y hl e l =
     let q : len - length (drop head xs) ≡ at = simp length-drop (omega arith) in
     rw (drop-set-lt, take-set-lt, set-append_right (drop head xs) (take head xs) (length (drop head xs)) len y refl w, q)
 
+-- .. wherever that slot lies
+written : {X : Type 0} (xs : List X) (head len at : ℕ) (y : X) → head < length xs → len < length xs
+    → at ≡ (head + len) % length xs → drop head (set xs at y) ++ take head (set xs at y) ≡ set (drop head xs ++ take head xs) len y
+written xs head len at y h l place =
+    ⊎_elim
+    (λ s. let ahead : at ≡ head + len = place ∙ mod-eq_of_lt s in rw ahead (written_ahead xs head len y s))
+    (λ s. let wrapped = place ∙ wraps (head + len) (length xs) s (omega arith) in
+    written_before xs head len at y (omega arith) (omega (arith, wrapped)) (omega (arith, wrapped)))
+    (cases_lt (head + len) (length xs))
+
 -- an entry written len places past the head, around the end, waits last
 pub waiting_more : {X : Type 0} (xs : List X) (head len at : ℕ) (y : X) → head < length xs → len < length xs
     → at ≡ (head + len) % length xs → waiting (set xs at y) head (len + 1) ≡ waiting xs head len ++ y ∷ []
 waiting_more xs head len at y h l place =
     let w : len < length (drop head xs ++ take head xs) = simp (length-append, length-drop, length-take) (omega arith) in
-    let written : drop head (set xs at y) ++ take head (set xs at y) ≡ set (drop head xs ++ take head xs) len y =
-    ⊎_elim
-    (λ s. let ahead : at ≡ head + len = place ∙ mod-eq_of_lt s in rw ahead (written_ahead xs head len y s))
-    (λ s. let wrapped = place ∙ wraps (head + len) (length xs) s (omega arith) in
-    written_before xs head len at y (omega arith) (omega (arith, wrapped)) (omega (arith, wrapped)))
-    (cases_lt (head + len) (length xs)) in
-    ap (take (len + 1)) written ∙ take_more_set _ len y w
+    ap (take (len + 1)) (written xs head len at y h l place) ∙ take_more_set _ len y w
+
+-- .. where it is counted; else what waits is the same
+pub waiting_same : {X : Type 0} (xs : List X) (head len at : ℕ) (y : X) → head < length xs → len < length xs
+    → at ≡ (head + len) % length xs → waiting (set xs at y) head len ≡ waiting xs head len
+waiting_same xs head len at y h l place =
+    let le : len ≤ len = omega arith in
+    ap (take len) (written xs head len at y h l place) ∙ take-set-le len (drop head xs ++ take head xs) len y le
 
 -- once the first entry is served, the others wait from the next slot on
 served_ahead : {X : Type 0} (xs : List X) (head n : ℕ) (d : X) → head < length xs → n < length xs

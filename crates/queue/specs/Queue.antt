@@ -1,4 +1,4 @@
-use Rattle.std.specs.Prelude.{◌≡◌, ℕ, ◌<◌, ◌↔◌, List, [], ◌∷◌, ◌++◌, length, ⊤, Option, IfNone, MatchOption, Result, IsOk, OnOk, IfErr}
+use Rattle.std.specs.Prelude.{◌≡◌, ℕ, ◌<◌, ◌↔◌, Bool, IsTrue, if◌then◌else◌, List, [], ◌∷◌, ◌++◌, length, ⊤, Option, IfNone, MatchOption, Result, IsOk, OnOk, IfErr}
 use Rattle.queue.specs.Waiting.{waiting}
 use Rattle.queue.specs.declared.Queue.{Queue}
 
@@ -16,6 +16,13 @@ pub record Enqueued {X : Type 0} (old new : Queue X) (entry : X) (answer : Resul
   pub taken : IsOk answer ↔ (length (waits old) < capacity old)
   pub last : OnOk answer (waits new ≡ waits old ++ entry ∷ [])
   pub unchanged : IfErr answer (λ back. (back ≡ entry) × (new ≡ old))
+  pub room : capacity new ≡ capacity old
+
+-- what enqueue_if does with an entry: it waits last exactly where it is wanted and fewer wait than can; else the same entries
+-- wait as before, and as many can wait after either
+pub record EnqueuedIf {X : Type 0} (old new : Queue X) (entry : X) (wanted answer : Bool) : Type 0 where
+  pub taken : IsTrue answer ↔ (IsTrue wanted × (length (waits old) < capacity old))
+  pub last : waits new ≡ (if answer then waits old ++ entry ∷ [] else waits old)
   pub room : capacity new ≡ capacity old
 
 -- what dequeue serves: the first that waits, which then waits no more, or nothing exactly where nothing waits;

@@ -1,6 +1,6 @@
 #![tactic(auto)]
 
-ghost use Rattle.std.specs.Prelude.{◌≡◌, ◌+◌, ◌%◌, ◌<◌, ◌≤◌, [], length};
+ghost use Rattle.std.specs.Prelude.{◌≡◌, ◌+◌, ◌%◌, ◌<◌, ◌≤◌, [], length, MatchOption};
 
 // A queue, first in, first out, in a ring over slots that the caller lends: a `VecDeque` would need a heap.
 // `len` entries wait, from slot `head` on, and past the last slot from the first one on.
@@ -15,7 +15,7 @@ pub struct Queue<'a, T> {
 }
 
 impl<'a, T: Copy> Queue<'a, T> {
-    ghost use Rattle.queue.specs.Queue.{waits, capacity, Enqueued, Dequeued};
+    ghost use Rattle.queue.specs.Queue.{waits, capacity, Enqueued, EnqueuedIf, Dequeued};
 
     // A queue in which nothing waits, over all the slots. What they hold does not matter.
     pub fn new(slots: &'a mut [T]) -> Queue<'a, T>
@@ -34,14 +34,26 @@ impl<'a, T: Copy> Queue<'a, T> {
     pub fn enqueue(&mut self, entry: T) -> Result<(), T>
         ensures { Enqueued self.old self.new entry result }
     {
-        let len = self.len;
-        if len >= self.slots.len() {
+        let Some(last) = self.next_slot() else {
             return Err(entry);
-        }
-        let last = self.past_head(len);
+        };
         self.slots[last] = entry;
         self.len += 1;
         Ok(())
+    }
+
+    // Has the entry wait last if it is wanted and fewer wait than there are slots, and answers whether it waits now; else the same
+    // entries wait as before. It writes the slot either way, so that a test that comes out at random costs no branch.
+    #[tactic(auto, using(crate::proofs::Rings::waiting_more, crate::proofs::Rings::waiting_same, crate::proofs::Rings::length_waiting, std::proofs::lemmas::Grind::common_steps))]
+    pub fn enqueue_if(&mut self, entry: T, wanted: bool) -> bool
+        ensures { EnqueuedIf self.old self.new entry wanted result }
+    {
+        let Some(free) = self.next_slot() else {
+            return false;
+        };
+        self.slots[free] = entry;
+        self.len += usize::from(wanted);
+        wanted
     }
 
     // Serves the entry that has waited longest. Where nothing waits, answers None and changes nothing.
@@ -56,6 +68,17 @@ impl<'a, T: Copy> Queue<'a, T> {
         self.head = self.past_head(1);
         self.len -= 1;
         Some(entry)
+    }
+
+    // The slot for the next entry that waits: the one behind the last. None where as many wait as there are slots.
+    fn next_slot(&self) -> Option<usize>
+        ensures { MatchOption result (self.now.len ≡ capacity self.now) (λ at. (self.now.len < capacity self.now) × (at ≡ (self.now.head + self.now.len) % capacity self.now)) }
+    {
+        let len = self.len;
+        if len >= self.slots.len() {
+            return None;
+        }
+        Some(self.past_head(len))
     }
 
     // The slot `steps` past the head, round the end of the ring; no sum overflows, however many slots there are.
@@ -93,8 +116,9 @@ mod tests {
                 && queue.enqueue(entries[2]).is_ok()
         );
         assert!(rt; queue.enqueue(entries[3]).is_err());
+        assert!(rt; !queue.enqueue_if(entries[3], true));
         let first = queue.dequeue();
-        assert!(rt; queue.enqueue(entries[3]).is_ok());
+        assert!(rt; !queue.enqueue_if(entries[0], false) && queue.enqueue_if(entries[3], true));
         [
             first,
             queue.dequeue(),

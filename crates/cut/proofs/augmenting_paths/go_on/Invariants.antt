@@ -5,4 +5,4 @@ use Rattle.cut.specs.Searches.{AllInside}
 use Rattle.cut.proofs.augmenting_paths.go_on.Given as goal
 
 abbrev pub invariant-loop : goal.invariant-loop
-invariant-loop l = record { eased : InPlace Eased l.initial.flows l.flows; inside : AllInside (λ (s : Step). s.cell) l.flows.tile.now l.queue }
+invariant-loop l = record { eased : InPlace Eased l.fn.flows l.flows; inside : AllInside (λ (s : Step). s.cell) l.flows.tile.now l.queue }

@@ -1,12 +1,9 @@
 use Rattle.std.proofs.Common.{arith}
-use Rattle.cut.proofs.Lent.{eased_then}
-use Rattle.cut.proofs.Settling.{relieved_is_eased, settled_swept, relieved_swept}
+use Rattle.cut.proofs.Settling.{eased_settled}
 use Rattle.cut.proofs.makers.settle.Goals as goal
 
-pub returns : goal.returns
-returns g c = settled_swept _ _ _ _ c.loop.invariant.eased c.sweep.ensures c.loop-test.false
+pub sweep_all-requires : goal.sweep_all-requires
+sweep_all-requires g c = omega (arith, c.pair_up.ensures.holds.still.long, c.requires)
 
-pub loop-preserved : goal.loop-preserved
-loop-preserved g c =
-    let e = relieved_is_eased _ _ (relieved_swept _ _ _ c.sweep.ensures c.loop-test.true) in
-    record { eased = eased_then _ _ _ c.loop.invariant.eased e; rooms = omega (arith, e.holds.still.long, c.loop.invariant.rooms) }
+pub returns : goal.returns
+returns g c = eased_settled _ _ _ c.pair_up.ensures c.sweep_all.ensures

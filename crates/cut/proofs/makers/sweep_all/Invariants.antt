@@ -1,7 +1,7 @@
 use Rattle.std.proofs.Common.{◌≤◌, length}
 use Rattle.flow.specs.Sides.{Eased, total_lack}
 use Rattle.cut.specs.Lent.{InPlace}
-use Rattle.cut.proofs.makers.settle.Given as goal
+use Rattle.cut.proofs.makers.sweep_all.Given as goal
 
 abbrev pub invariant-loop : goal.invariant-loop
 invariant-loop g l = record { eased : InPlace Eased l.initial.flows l.flows; rooms : length l.flows.tile.now ≤ length l.work }

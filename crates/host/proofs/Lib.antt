@@ -1,0 +1,4 @@
+pub mod Taken
+pub mod GoingOn
+pub mod Drafted
+pub mod RoundsDone

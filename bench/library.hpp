@@ -1,0 +1,41 @@
+// The library's side, by its C interface: memory for records, workspace and heights, and the calls on it.
+#pragma once
+
+#include "peer.hpp"
+#include "scenes.hpp"
+
+#include "yolanthuk.h"
+
+#include <cstdint>
+#include <vector>
+
+enum class Maker { push_relabel, augmenting_paths };
+
+// One tile in the library's records. A refusal ends the program, as none is due.
+class Tile {
+  public:
+    Tile(Maker maker, int cells);
+
+    // Solves a tile file; answers the energy, and the low ends are the heights.
+    long long solve(const std::vector<std::uint8_t> &file);
+
+    // The same by single calls: a draft is filled with a scene, and then comes one round after the other.
+    void begin(const Scene &scene);
+    void round();
+
+    // Lays a charged tile into the records; cuts what was laid.
+    void lay(const Charged &charged);
+    void cut();
+
+    Marks marks() const;
+    std::vector<int> low() const;
+    std::vector<int> high() const;
+
+  private:
+    Maker maker_;
+    std::vector<yolanthuk_cell> records_;
+    std::vector<std::uint16_t> entries_, heights_;
+    yolanthuk_rounding rounding_{};
+    std::uint8_t letter_ = 0;
+    std::size_t rows_ = 0, columns_ = 0;
+};

@@ -5,7 +5,7 @@ use Rattle.flow.specs.declared.flows.Flows.{Flows}
 use Rattle.flow.specs.Sides.{Eased}
 use Rattle.flow.specs.Lent.{SameRows}
 use Rattle.flow.proofs.Fields.{level_self, level_trans}
-use Rattle.flow.proofs.Pushes.{eased_self as eased_refl, eased_trans, eased_level}
+use Rattle.flow.proofs.Pushes.{eased_trans, eased_level}
 use Rattle.cut.specs.Lent.{InPlace, Leveled}
 use Rattle.cut.specs.Climbs.{Relieved}
 use Rattle.cut.proofs.Climbs.{relieved_after, relieved_then}
@@ -31,9 +31,6 @@ leveled_trans f f1 f2 a b = record { rows = rows_trans f f1 f2 a.rows b.rows; ho
 
 pub eased_then : (f f1 f2 : Flows) → InPlace Eased f f1 → InPlace Eased f1 f2 → InPlace Eased f f2
 eased_then = in_place_then Eased Eased Eased eased_trans
-
-pub eased_self : (f : Flows) → InPlace Eased f f
-eased_self f = record { rows = rows_self f; holds = eased_refl _ _ f.sound }
 
 -- four steps, one for each direction
 pub eased_four : (f f1 f2 f3 f4 : Flows) → InPlace Eased f f1 → InPlace Eased f1 f2 → InPlace Eased f2 f3 → InPlace Eased f3 f4 → InPlace Eased f f4

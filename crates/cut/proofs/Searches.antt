@@ -12,12 +12,19 @@ use Rattle.tile.specs.declared.side.Side.{Side}
 use Rattle.tile.specs.Tiles.{Tile, cell, blank}
 use Rattle.flow.specs.Sides.{beside, room_forth, room_back, room, InDeficit, SameFlows, unranked}
 use Rattle.tile.specs.Ties.{offset}
-use Rattle.cut.specs.Ranks.{rank_of, with_rank, ranked_at, has_rank, ranked}
+use Rattle.cut.specs.Ranks.{rank_of, with_rank, ranked_at, with_mark, marked_at, has_rank, ranked}
 use Rattle.cut.specs.Searches.{Among, Parent, Grown, Spread, Searching, Grows}
 use Rattle.flow.proofs.Fields.{set_field, live_still, weight_still, flow_level, remains_level, level_still, level_self, level_trans}
 
 pub level_ranked : (t : Tile) (v r : ℕ) → SameFlows t (ranked_at t v r)
 level_ranked t v r = record { long = length-set _ _ _; same = set_field unranked t v (with_rank r (cell t v)) refl }
+
+-- a mark is written: no flow moves, and the ranks stay
+pub level_marked : (t : Tile) (v m : ℕ) → SameFlows t (marked_at t v m)
+level_marked t v m = record { long = length-set _ _ _; same = set_field unranked t v (with_mark m (cell t v)) refl }
+
+pub rank_marked : (t : Tile) (v m b : ℕ) → rank_of (marked_at t v m) b ≡ rank_of t b
+rank_marked t v m b = set_field (λ (c : Cell). c.rank) t v (with_mark m (cell t v)) refl b
 
 room_forth_level : (t t' : Tile) → SameFlows t t' → (c : ℕ) (d : Side) (a : ℕ) → room_forth t' c d a ≡ room_forth t c d a
 room_forth_level t t' p c d a =

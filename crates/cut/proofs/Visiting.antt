@@ -119,11 +119,6 @@ module _ {X : Type 0} (spot : X → ℕ) (came : X → Option Direction) where
   inside_more n q q' e (Ok _) p l a = subst (All (λ x. spot x < n)) (sym p.last) (All-push (λ x. spot x < n) (waits q) e a l)
   inside_more n q q' e (Err _) p l a = subst (λ (k : Queue X). All (λ x. spot x < n) (waits k)) (sym p.unchanged.1) a
 
-  -- .. or where it is wanted
-  pub inside_more_if : (n : ℕ) (q q' : Queue X) (e : X) (w b : Bool) → EnqueuedIf q q' e w b → spot e < n → All (λ x. spot x < n) (waits q) → All (λ x. spot x < n) (waits q')
-  inside_more_if n q q' e w true p l a = subst (All (λ x. spot x < n)) (sym p.last) (All-push (λ x. spot x < n) (waits q) e a l)
-  inside_more_if n q q' e w false p l a = subst (All (λ x. spot x < n)) (sym p.last) a
-
   pub goes_none : (e : X) (h : Direction) (f : Flows) (r : Queue X) → (BackTo f.columns f.tile.now (spot e) (came e) → pos 0 <ℤ room f.tile.now f.columns h (spot e) → 0 < rank_of f.tile.now (beside f.columns h (spot e))) → Goes spot came e h f f r r
   goes_none e h f r d = record { level = leveled_self f; rooms = refl; inside = λ a. a; search = λ k. visited_none f.columns (spot e) h (came e) f.tile.now r k (d k.back_to) }
 
@@ -243,7 +238,7 @@ module _ {X : Type 0} (spot : X → ℕ) (came : X → Option Direction) where
     pub back : All (λ s. came s ≡ None) (waits r')
     pub roots : (b : ℕ) → 0 < rank_of f'.tile.now b → InDeficit f'.tile.now f'.columns b
 
-  pub beginning_not : (u : ℕ) (f f1 f2 : Flows) (r r1 r2 : Queue X) (s : X) (b : Bool) → Beginning u f f1 r r1 → (InDeficit f1.tile.now f1.columns u → ⊥) → SameRows f1 f2 → f2.tile.now ≡ ranked_at f1.tile.now u 0 → EnqueuedIf r1 r2 s false b → Beginning (u + 1) f f2 r r2
+  beginning_not : (u : ℕ) (f f1 f2 : Flows) (r r1 r2 : Queue X) (s : X) (b : Bool) → Beginning u f f1 r r1 → (InDeficit f1.tile.now f1.columns u → ⊥) → SameRows f1 f2 → f2.tile.now ≡ ranked_at f1.tile.now u 0 → EnqueuedIf r1 r2 s false b → Beginning (u + 1) f f2 r r2
   beginning_not u f f1 f2 r r1 r2 s b k n rows te p =
       let e : f2.tile.now ≡ f1.tile.now = te ∙ ranked_same f1.tile.now u (k.none u (omega arith)) in
       let q : waits r2 ≡ waits r1 = unwanted_same r1 r2 s b p in
@@ -256,7 +251,7 @@ module _ {X : Type 0} (spot : X → ℕ) (came : X → Option Direction) where
         roots = λ x px. rw (rows.columns, e) (k.roots x (subst (λ (y : Tile). 0 < rank_of y x) e px));
       }
 
-  pub beginning_root : (u n : ℕ) (f f1 f2 : Flows) (r r1 r2 : Queue X) (s : X) (b : Bool) → Beginning u f f1 r r1 → length f.tile.now ≤ capacity r → u < length f.tile.now → n ≡ length f.tile.now → InDeficit f1.tile.now f1.columns u → SameRows f1 f2 → f2.tile.now ≡ ranked_at f1.tile.now u n → EnqueuedIf r1 r2 s true b → spot s ≡ u → came s ≡ None → Beginning (u + 1) f f2 r r2
+  beginning_root : (u n : ℕ) (f f1 f2 : Flows) (r r1 r2 : Queue X) (s : X) (b : Bool) → Beginning u f f1 r r1 → length f.tile.now ≤ capacity r → u < length f.tile.now → n ≡ length f.tile.now → InDeficit f1.tile.now f1.columns u → SameRows f1 f2 → f2.tile.now ≡ ranked_at f1.tile.now u n → EnqueuedIf r1 r2 s true b → spot s ≡ u → came s ≡ None → Beginning (u + 1) f f2 r r2
   beginning_root u n f f1 f2 r r1 r2 s b k room l ne sh rows te p se nb =
       let long = k.level.holds.long in
       let z = k.none u (omega arith) in

@@ -1,5 +1,5 @@
 // Augmenting paths: flow runs along a shortest residual path from a deficit cell to a surplus cell.
-ghost use Rattle.std.specs.Prelude.{◌≡◌, ◌+◌, ◌/◌, ◌<◌, ◌≤◌, length};
+ghost use Rattle.std.specs.Prelude.{◌≡◌, ◌+◌, ◌/◌, ◌<◌, ◌≤◌, length, IfSome};
 ghost use Rattle.flow.specs.Sides.{InSurplus, Eased};
 ghost use Rattle.cut.specs.declared.entry.Step.{Step as Record};
 ghost use Rattle.cut.specs.Ranks.{rank_of};
@@ -7,9 +7,9 @@ ghost use Rattle.cut.specs.Lent.{InPlace, Leveled};
 ghost use Rattle.cut.specs.Searches.{Started, AllInside, Eases};
 ghost use Rattle.cut.specs.Climbs.{Above, Relieved, Sought, Swept};
 
-use crate::climb::{carry, climb, dead_end, is_ranked_surplus};
+use crate::climb::{carry, climb, higher, is_ranked_surplus};
 use crate::entry::Step;
-use crate::ranks::put_rank;
+use crate::ranks::{marked_direction, put_mark, put_rank};
 use crate::search::{start_search, visit_all};
 use flow::Flows;
 use queue::Queue;
@@ -46,27 +46,56 @@ fn push_path(flows: &mut Flows, u: usize)
 
 // How many dead ends may be met before the next push; then the search is given up, and a new one starts.
 fn patience(flows: &Flows) -> usize
-    ensures { result ≡ length flows.now.tile.now / 32 + 1 }
+    ensures { result ≡ length flows.now.tile.now / 16 + 1 }
 {
-    flows.tile.len() / 32 + 1
+    flows.tile.len() / 16 + 1
 }
 
-// Takes away the rank of each cell at which a way up from u over ever higher ranks ends, until one leads to a deficit cell or u
-// has no rank itself. Answers how many more dead ends may be met.
+// Goes up from a cell over ever higher ranks, and marks each cell on the way with the direction back. Answers at which cell the way
+// ends, unless it comes to a deficit cell.
+fn go_up(flows: &mut Flows, from: usize) -> Option<usize>
+    requires { from < length flows.old.tile.now }
+    ensures level { Leveled flows.old flows.new }
+    ensures inside { IfSome result (λ end. end < length flows.new.tile.now) }
+{
+    let mut v = from;
+    while let Some((u, toward)) = higher(flows, v) {
+        if flows.in_deficit(u) {
+            return None;
+        }
+        put_mark(flows, u, toward.opposite());
+        v = u;
+    }
+    Some(v)
+}
+
+// The cell from which a way came to u.
+fn before(flows: &Flows, u: usize) -> Option<usize>
+    requires { u < length flows.now.tile.now }
+    ensures { IfSome result (λ v. v < length flows.now.tile.now) }
+{
+    flows.beside(u, marked_direction(flows.tile[u].mark))
+}
+
+// Looks for a way up from u that leads to a deficit cell: a cell at which a way ends loses its rank, and the way goes on from the cell
+// before it, until one is found or u has no rank itself. Answers how many more dead ends may be met.
 fn clear_way(flows: &mut Flows, u: usize, most: usize) -> usize
     requires { u < length flows.old.tile.now }
     ensures { InPlace Eased flows.old flows.new }
 {
     let mut from = u;
     for left in (0..most).rev() {
-        let Some((end, before)) = dead_end(flows, from) else {
+        let Some(end) = go_up(flows, from) else {
             return left + 1;
         };
         put_rank(flows, end, 0);
         if end == u {
             return left;
         }
-        from = if before == end { u } else { before };
+        let Some(v) = before(flows, end) else {
+            return left;
+        };
+        from = v;
     }
     0
 }

@@ -1,5 +1,5 @@
 // The climb over ever higher ranks, from a surplus cell to a deficit cell.
-ghost use Rattle.std.specs.Prelude.{◌<◌, length, pos, ◌<ℤ◌, IsTrue, IfSome, ◌↔◌};
+ghost use Rattle.std.specs.Prelude.{◌<◌, length, pos, ◌<ℤ◌, IsTrue, ◌↔◌};
 ghost use Rattle.flow.specs.Sides.{InSurplus, Eased};
 ghost use Rattle.cut.specs.Ranks.{rank_of};
 ghost use Rattle.cut.specs.Lent.{InPlace};
@@ -42,7 +42,7 @@ fn higher_beside(flows: &Flows, v: usize, toward: Direction) -> Option<usize>
 }
 
 // Such a cell, and the direction in which it lies.
-fn higher(flows: &Flows, v: usize) -> Option<(usize, Direction)>
+pub(crate) fn higher(flows: &Flows, v: usize) -> Option<(usize, Direction)>
     requires { v < length flows.now.tile.now }
     ensures { FoundHigher flows.now.columns flows.now.tile.now v result }
 {
@@ -91,21 +91,4 @@ pub(crate) fn carry(flows: &Flows, e: usize) -> Option<i32>
         v = u;
     }
     None
-}
-
-// The cell at which a way up from e over ever higher ranks ends without coming to a deficit cell, and the cell before it on that way.
-pub(crate) fn dead_end(flows: &Flows, e: usize) -> Option<(usize, usize)>
-    requires { e < length flows.now.tile.now }
-    ensures { IfSome result (λ p. (p.0 < length flows.now.tile.now) × (p.1 < length flows.now.tile.now)) }
-{
-    let mut v = e;
-    let mut before = e;
-    while let Some((u, _)) = higher(flows, v) {
-        if flows.in_deficit(u) {
-            return None;
-        }
-        before = v;
-        v = u;
-    }
-    Some((v, before))
 }

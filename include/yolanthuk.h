@@ -7,9 +7,10 @@
  * values, in memory that may be read and, where the pointer is not to const, written. Where the length is 0 the pointer may be NULL;
  * no other pointer may be. It is aligned as its type asks. What one call may write overlaps nothing else that the same call is lent. No
  * function keeps a pointer, allocates memory, reads or writes a file, or has state of its own; so calls on different memory may run in
- * several threads at a time, and a call may run in an interrupt. Nothing checks this paragraph; all else is proved of the library.
+ * several threads at a time, and a call may run in an interrupt. Nothing checks what this paragraph asks of the host; what the functions then
+ * answer and write is proved.
  *
- * Stack. Less than 2 KiB for a call; rounds and files by augmenting paths need 17 KiB more, and yolanthuk_cut_by_paths
+ * Stack. Less than 2 KiB for a call, as measured; rounds and files by augmenting paths need 17 KiB more, and yolanthuk_cut_by_paths
  * 65 KiB more.
  *
  * Linking. libhost.a needs memset of the C library, and nothing else.

@@ -3,9 +3,9 @@
 #
 #     tools/check_c.sh
 #
-# CC and CXX are the compilers, cc and c++ if not set. Every program is built a second time with the sanitizers for addresses and
-# undefined behaviour, where the compiler has them; they look at the code in C and at what it lends. The exit status is 1 where
-# something is not as it has to be.
+# CC and CXX are the compilers, cc and c++ if not set. The library is built by LLVM and by Rattle's own compiler, and the programs are run
+# over both; once more with the sanitizers for addresses and undefined behaviour, where the compiler has them, which look at the code in
+# C and at what it lends. crates/host/out/libhost.a is LLVM's in the end. The exit status is 1 where something is not as it has to be.
 set -u
 cd "$(dirname "$0")/.." || exit 1
 cc=${CC:-cc}
@@ -37,6 +37,15 @@ compare() {
     say "$name" $?
 }
 
+# Builds the library, with some more flags.
+build() {
+    # shellcheck disable=SC2086 # flags, parted by spaces
+    (cd crates/host && rt lib $1) >"$made/built" 2>&1 || {
+        cat "$made/built"
+        exit 1
+    }
+}
+
 # Builds both programs with some more flags, and runs them.
 run_all() {
     for program in solve_file steps; do
@@ -44,20 +53,23 @@ run_all() {
         "$cc" -std=c11 $strict $1 "samples/c/$program.c" "$library" -o "$made/$program" || return 1
     done
     for file in samples/*.tile; do
-        compare "$file$2" "$file" "${file%.tile}.txt" "$made/solve_file"
-        compare "$file by paths$2" "$file" "${file%.tile}.txt" "$made/solve_file" paths
+        for maker in push paths; do
+            compare "$file by $maker$2" "$file" "${file%.tile}.txt" "$made/solve_file" --records 4096 --cut "$maker"
+        done
     done
     printf '\000\001\130' >"$made/letter.tile"
     echo "refused 13 1 2 0" >"$made/letter.txt"
     compare "a file of another letter$2" "$made/letter.tile" "$made/letter.txt" "$made/solve_file"
     compare "the calls one by one$2" /dev/null samples/c/steps.txt "$made/steps"
+    tools/fuzz_flatten.py "$made/solve_file" --files 500 >"$made/fuzzed"
+    say "500 files, good and bad$2" $?
 }
 
-(cd crates/host && rt lib) >"$made/built" 2>&1 || {
-    cat "$made/built"
-    exit 1
-}
+build "--backend rattle"
+run_all "-O2" ", over Rattle's own compiler"
+say "programs in C, over Rattle's own compiler" $?
 
+build ""
 run_all "-O2" ""
 say "programs in C" $?
 

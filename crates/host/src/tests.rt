@@ -39,86 +39,75 @@ const LEVEL: LevelNumbers = LevelNumbers {
 fn drafts(rt: HostRuntime) {
     let mut tile = [Cell::default(); 2];
     let mut draft = DraftNumbers::default();
-    assert_eq!(rt; yolanthuk_start(65, 2, 10, &mut tile, &mut draft), 1);
-    assert_eq!(rt; yolanthuk_start(1, 2, 10, &mut tile[..1], &mut draft), 2);
-    assert_eq!(rt; draft, DraftNumbers::default());
-    assert_eq!(rt; yolanthuk_start(1, 2, 10, &mut tile, &mut draft), 0);
+    let answers = [
+        yolanthuk_start(65, 2, 10, &mut tile, &mut draft),
+        yolanthuk_start(1, 2, 10, &mut tile[..1], &mut draft),
+        yolanthuk_start(1, 2, 10, &mut tile, &mut draft),
+        yolanthuk_put(draft, &mut tile, 0, 2, 10, 1),
+        yolanthuk_put(draft, &mut tile, 0, 1, 11, 1),
+        yolanthuk_put(draft, &mut tile, 0, 1, 10, 1),
+        yolanthuk_tie(draft, &mut tile, 0, 0, 6, 1),
+        yolanthuk_tie(draft, &mut tile, 0, 0, 6, 0),
+    ];
+    assert_eq!(rt; answers, [1, 2, 0, 4, 5, 0, 6, 0]);
     assert_eq!(rt; draft, DRAFT);
-    assert_eq!(rt; yolanthuk_put(draft, &mut tile, 0, 2, 10, 1), 4);
-    assert_eq!(rt; yolanthuk_put(draft, &mut tile, 0, 1, 11, 1), 5);
-    assert_eq!(rt; yolanthuk_put(draft, &mut tile, 0, 1, 10, 1), 0);
-    assert_eq!(rt; yolanthuk_tie(draft, &mut tile, 0, 0, 6, 1), 6);
-    assert_eq!(rt; yolanthuk_tie(draft, &mut tile, 0, 0, 6, 0), 0);
     assert_eq!(rt; (tile[0].right, tile[1].reading, tile[1].class), (6, 10, 1));
+}
+
+// The records after so many rounds have left these heights.
+fn settled() -> [Cell; 2] {
+    let cell = |reading, right, height| Cell {
+        reading,
+        class: 1,
+        right,
+        low: height,
+        high: height,
+        ..Cell::default()
+    };
+    [cell(0, 6, 3), cell(10, 0, 7)]
 }
 
 #[test]
 fn rounds(rt: HostRuntime) {
-    let mut tile = [Cell::default(); 2];
+    let mut tile = settled();
     let mut entries = [0; 2];
     let mut draft = DraftNumbers::default();
-    assert_eq!(rt; yolanthuk_start(1, 2, 10, &mut tile, &mut draft), 0);
-    assert_eq!(rt; yolanthuk_put(draft, &mut tile, 0, 0, 0, 1), 0);
-    assert_eq!(rt; yolanthuk_put(draft, &mut tile, 0, 1, 10, 1), 0);
-    assert_eq!(rt; yolanthuk_tie(draft, &mut tile, 0, 0, 6, 0), 0);
-    let mut rounding = RoundingNumbers::default();
+    let mut rounding = ROUNDED;
     let mut level = LevelNumbers::default();
-    assert_eq!(rt; yolanthuk_begin(draft, &tile, &mut rounding), 0);
-    assert_eq!(rt;
+    let answers = [
+        yolanthuk_reopen(rounding, &mut tile, &mut draft),
+        yolanthuk_begin(draft, &tile, &mut rounding),
         yolanthuk_round(&mut rounding, b'B', &mut tile, &mut entries),
-        13
-    );
-    assert_eq!(rt;
         yolanthuk_round(&mut rounding, b'Q', &mut tile, &mut entries[..1]),
-        7
-    );
-    assert_eq!(rt;
         yolanthuk_round(&mut rounding, b'Q', &mut tile, &mut entries),
-        0
-    );
+        yolanthuk_finish(rounding, &tile, &mut level),
+        yolanthuk_round_by_paths(&mut rounding, b'Q', &mut tile),
+    ];
+    assert_eq!(rt; answers, [0, 0, 13, 7, 0, 10, 0]);
+    assert_eq!(rt; (draft, rounding.done), (DRAFT, 2));
     assert_eq!(rt;
-        (rounding.done, tile[0].charge, tile[1].charge),
-        (1, 11, -9)
+        (tile[0].low, tile[0].high, tile[1].low, tile[1].high),
+        (3, 5, 6, 8)
     );
-    assert_eq!(rt; (tile[0].mark, tile[1].mark), (0, 1));
-    assert_eq!(rt; yolanthuk_finish(rounding, &tile, &mut level), 10);
-    assert_eq!(rt; yolanthuk_round_by_paths(&mut rounding, b'Q', &mut tile), 0);
-    assert_eq!(rt; yolanthuk_reopen(rounding, &mut tile, &mut draft), 0);
-    assert_eq!(rt; (draft, tile[1].reading, tile[1].low), (DRAFT, 10, 0));
 }
 
 #[test]
 fn levels(rt: HostRuntime) {
-    let mut tile = [Cell::default(); 2];
-    let mut draft = DraftNumbers::default();
-    let mut rounding = ROUNDED;
-    let mut level = LevelNumbers::default();
-    for (cell, (reading, height)) in tile.iter_mut().zip([(0, 3), (10, 7)]) {
-        *cell = Cell {
-            reading,
-            class: 1,
-            low: height,
-            high: height,
-            ..Cell::default()
-        };
-    }
-    tile[0].right = 6;
-    assert_eq!(rt;
-        yolanthuk_round(&mut rounding, b'Q', &mut tile, &mut [0; 2]),
-        9
-    );
-    assert_eq!(rt; yolanthuk_finish(rounding, &tile, &mut level), 0);
-    assert_eq!(rt; level, LEVEL);
+    let mut tile = settled();
+    let (mut draft, mut level) = (DraftNumbers::default(), LevelNumbers::default());
     let (mut height, mut heights, mut energy) = (0, [0; 3], 0);
-    assert_eq!(rt; yolanthuk_height(level, &tile, 0, 1, &mut height), 0);
-    assert_eq!(rt; yolanthuk_heights(level, &tile, &mut heights[..1]), 2);
-    assert_eq!(rt; yolanthuk_heights(level, &tile, &mut heights), 0);
-    assert_eq!(rt; yolanthuk_cost(level, b'Q', &tile, &mut energy), 0);
+    let answers = [
+        yolanthuk_finish(ROUNDED, &tile, &mut level),
+        yolanthuk_height(LevelNumbers { done: 3, ..level }, &tile, 0, 1, &mut height),
+        yolanthuk_height(level, &tile, 0, 1, &mut height),
+        yolanthuk_heights(level, &tile, &mut heights[..1]),
+        yolanthuk_heights(level, &tile, &mut heights),
+        yolanthuk_cost(level, b'Q', &tile, &mut energy),
+        yolanthuk_reopen_level(level, &mut tile, &mut draft),
+    ];
+    assert_eq!(rt; answers, [0, 1, 0, 2, 0, 0, 0]);
+    assert_eq!(rt; (level, draft), (LEVEL, DRAFT));
     assert_eq!(rt; (height, heights, energy), (7, [3, 7, 0], 42));
-    let early = LevelNumbers { done: 3, ..level };
-    assert_eq!(rt; yolanthuk_height(early, &tile, 0, 1, &mut height), 1);
-    assert_eq!(rt; yolanthuk_reopen_level(level, &mut tile, &mut draft), 0);
-    assert_eq!(rt; draft, DRAFT);
 }
 
 #[test]
@@ -133,17 +122,42 @@ fn files(rt: HostRuntime) {
         energy: 0,
     };
     let mut fault = FaultNumbers::default();
-    assert_eq!(rt;
+    let answers = [
+        yolanthuk_solve_file(
+            FILE,
+            &mut tile,
+            &mut entries,
+            &mut heights[..1],
+            &mut solution,
+            &mut fault,
+        ),
+        yolanthuk_solve_file(
+            FILE,
+            &mut tile,
+            &mut entries[..1],
+            &mut heights,
+            &mut solution,
+            &mut fault,
+        ),
         yolanthuk_solve_file(
             &FILE[..28],
             &mut tile,
             &mut entries,
             &mut heights,
             &mut solution,
-            &mut fault
+            &mut fault,
         ),
-        11
-    );
+        yolanthuk_solve_file(
+            FILE,
+            &mut tile,
+            &mut entries,
+            &mut heights,
+            &mut solution,
+            &mut fault,
+        ),
+        yolanthuk_solve_file_by_paths(FILE, &mut tile, &mut heights, &mut solution, &mut fault),
+    ];
+    assert_eq!(rt; answers, [2, 7, 11, 0, 0]);
     assert_eq!(rt;
         fault,
         FaultNumbers {
@@ -154,53 +168,7 @@ fn files(rt: HostRuntime) {
         }
     );
     assert_eq!(rt;
-        yolanthuk_solve_file(
-            FILE,
-            &mut tile,
-            &mut entries,
-            &mut heights[..1],
-            &mut solution,
-            &mut fault
-        ),
-        2
+        (solution.rounds, solution.energy, heights),
+        (4, 42, [3, 7])
     );
-    assert_eq!(rt;
-        fault,
-        FaultNumbers {
-            number: 2,
-            ..FaultNumbers::default()
-        }
-    );
-    assert_eq!(rt;
-        yolanthuk_solve_file(
-            FILE,
-            &mut tile,
-            &mut entries[..1],
-            &mut heights,
-            &mut solution,
-            &mut fault
-        ),
-        7
-    );
-    assert_eq!(rt;
-        yolanthuk_solve_file(
-            FILE,
-            &mut tile,
-            &mut entries,
-            &mut heights,
-            &mut solution,
-            &mut fault
-        ),
-        0
-    );
-    assert_eq!(rt;
-        (solution.top, solution.rounds, solution.energy),
-        (10, 4, 42)
-    );
-    assert_eq!(rt; heights, [3, 7]);
-    assert_eq!(rt;
-        yolanthuk_solve_file_by_paths(FILE, &mut tile, &mut heights, &mut solution, &mut fault),
-        0
-    );
-    assert_eq!(rt; (heights, solution.energy), ([3, 7], 42));
 }

@@ -4,6 +4,7 @@ use Rattle.std.proofs.Common.{lit≤}
 use Rattle.std.specs.List.{AllByRecursion}
 use Rattle.price.specs.Kinds.{absolute, squared, leaning}
 use Rattle.tile.specs.declared.shape.Shape.{Shape}
+use Rattle.tile.specs.Examples.{two_by_two, two_in_a_row}
 use Rattle.cases.specs.Cases.{Case, RightCase}
 
 -- one cell, with heights up to 7
@@ -13,14 +14,6 @@ one_cell = record { rows = 1; columns = 1; top = 7; tall = (lit≤ tt, lit≤ tt
 -- a row of three cells, with heights up to 7
 abbrev pub three_in_a_row : Shape
 three_in_a_row = record { rows = 1; columns = 3; top = 7; tall = (lit≤ tt, lit≤ tt); wide = (lit≤ tt, lit≤ tt); high = (lit≤ tt, lit≤ tt) }
-
--- a row of two cells, with heights up to 10
-abbrev pub two_in_a_row : Shape
-two_in_a_row = record { rows = 1; columns = 2; top = 10; tall = (lit≤ tt, lit≤ tt); wide = (lit≤ tt, lit≤ tt); high = (lit≤ tt, lit≤ tt) }
-
--- two rows of two cells, with heights 0 and 1
-abbrev pub two_by_two : Shape
-two_by_two = record { rows = 2; columns = 2; top = 1; tall = (lit≤ tt, lit≤ tt); wide = (lit≤ tt, lit≤ tt); high = (lit≤ tt, lit≤ tt) }
 
 abbrev pub worked : List Case
 worked =

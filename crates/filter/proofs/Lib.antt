@@ -11,3 +11,4 @@ pub mod Places
 pub mod Resurveyed
 pub mod Staying
 pub mod Numbers
+pub mod ByNumbers

@@ -4,3 +4,4 @@ pub mod Runs
 pub mod Laws
 pub mod Resuming
 pub mod Copying
+pub mod Examples

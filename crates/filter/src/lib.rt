@@ -2,6 +2,7 @@
 #![tactic(auto)]
 
 pub mod answers;
+pub mod examples;
 pub mod states;
 
 pub use answers::{Refused, Rounded};

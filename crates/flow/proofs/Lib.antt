@@ -7,3 +7,4 @@ pub mod Certifies
 pub mod Incident
 pub mod Reaching
 pub mod Fronts
+pub mod ByNumbers

@@ -4,3 +4,4 @@ pub mod Networks
 pub mod Points
 pub mod Charts
 pub mod Cutting
+pub mod Examples

@@ -4,6 +4,7 @@
 pub mod chart;
 pub mod cutting;
 pub mod direction;
+pub mod examples;
 pub mod flows;
 pub mod maker;
 

@@ -1,2 +1,3 @@
 pub mod Outcomes
 pub mod Each
+pub mod ByNumbers

@@ -1,6 +1,7 @@
 // The bounds of the product, and the refusals of its calls.
 #![tactic(auto)]
 
+pub mod examples;
 pub mod refusal;
 
 pub use refusal::Refusal;

@@ -3,3 +3,4 @@ pub mod Sounds
 pub mod Pulls
 pub mod Charges
 pub mod Copies
+pub mod ByNumbers

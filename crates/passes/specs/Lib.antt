@@ -3,3 +3,4 @@ pub mod Soundness
 pub mod Rounds
 pub mod Pulls
 pub mod Copying
+pub mod Examples

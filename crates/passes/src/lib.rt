@@ -3,6 +3,7 @@
 
 pub mod charging;
 pub mod copying;
+pub mod examples;
 pub mod narrowing;
 pub mod soundness;
 pub mod writing;

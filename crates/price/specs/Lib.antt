@@ -6,3 +6,4 @@ pub mod Made
 pub mod Asking
 pub mod Kept
 pub mod Shapes
+pub mod Examples

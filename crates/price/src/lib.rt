@@ -3,6 +3,7 @@
 
 pub mod absolute;
 pub mod curve;
+pub mod examples;
 pub mod greatest;
 pub mod leaning;
 pub mod question;

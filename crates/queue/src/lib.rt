@@ -1,5 +1,7 @@
 #![tactic(auto)]
 
+pub mod examples;
+
 ghost use Rattle.std.specs.Prelude.{◌≡◌, ◌+◌, ◌%◌, ◌<◌, ◌≤◌, [], length, MatchOption};
 
 // A queue, first in, first out, in a ring over slots that the caller lends: a `VecDeque` would need a heap.

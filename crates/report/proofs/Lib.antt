@@ -3,3 +3,4 @@ pub mod Filed
 pub mod Texts
 pub mod Printed
 pub mod FiledInto
+pub mod ByNumbers

@@ -3,3 +3,4 @@ pub mod Solving
 pub mod Printing
 pub mod Answering
 pub mod Copying
+pub mod Examples

@@ -3,6 +3,7 @@
 
 pub mod answering;
 pub mod copying;
+pub mod examples;
 pub mod printing;
 pub mod refusing;
 pub mod solving;

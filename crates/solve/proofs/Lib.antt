@@ -3,3 +3,4 @@ pub mod Past
 pub mod Samples
 pub mod Surveys
 pub mod OneCell
+pub mod ByNumbers

@@ -1,6 +1,7 @@
 // Solving a tile by the calls of the filter, from their contracts alone.
 #![tactic(auto)]
 
+pub mod examples;
 pub mod one_cell;
 pub mod refusing;
 pub mod solving;

@@ -6,7 +6,7 @@ use Rattle.theory.specs.Flows.{remainder, forth, back, Reached, deficit, onward}
 use Rattle.theory.specs.Instance.{two_cells, two_charges, six_back, CertificateCanBeMet}
 
 -- only the second cell is in deficit, and the tie is full on the way back
-only_second : {u : ℕ} → Reached two_cells two_charges six_back u → u ≡ 1
+pub only_second : {u : ℕ} → Reached two_cells two_charges six_back u → u ≡ 1
 only_second (deficit {u} l h) =
     ⊎_elim
     (λ (k : u < 1). let z : u ≡ 0 = omega arith in absurd (five (subst (λ (v : ℕ). remainder two_cells two_charges six_back v <ℤ pos 0) z h)))

@@ -6,4 +6,5 @@ pub mod Flows
 pub mod Levels
 pub mod Halving
 pub mod Instance
+pub mod ByNumbers
 pub mod Locals

@@ -6,3 +6,4 @@ pub mod Grids
 pub mod Levels
 pub mod Brackets
 pub mod Instance
+pub mod Examples

@@ -2,6 +2,8 @@
 // contract holds for graphs whose ties are told apart by values of any type `T`.
 #![tactic(auto)]
 
+pub mod examples;
+
 ghost use Rattle.theory.specs.Brackets.{HalvingFindsTheUpperHalf};
 ghost use Rattle.theory.specs.Flows.{CertifiedMarksAreTheSmallestCheapestSet};
 ghost use Rattle.theory.specs.Instance.{CertificateCanBeMet};

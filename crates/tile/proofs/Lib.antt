@@ -1,3 +1,4 @@
 pub mod Halves
 pub mod Joins
 pub mod Costs
+pub mod ByNumbers

@@ -4,3 +4,4 @@ pub mod Ties
 pub mod Tiles
 pub mod Rating
 pub mod Halving
+pub mod Examples

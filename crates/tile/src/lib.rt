@@ -3,6 +3,7 @@
 
 pub mod bracket;
 pub mod cell;
+pub mod examples;
 pub mod grid;
 pub mod rating;
 pub mod shape;

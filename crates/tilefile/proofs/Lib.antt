@@ -7,3 +7,4 @@ pub mod Found
 pub mod Fronts
 pub mod Layouts
 pub mod Accepting
+pub mod ByNumbers

@@ -6,3 +6,4 @@ pub mod Survey
 pub mod Files
 pub mod Contents
 pub mod Layout
+pub mod Examples

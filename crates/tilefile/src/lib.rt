@@ -2,6 +2,7 @@
 #![tactic(auto)]
 
 mod contents;
+pub mod examples;
 pub mod fault;
 mod laying;
 pub mod letter;

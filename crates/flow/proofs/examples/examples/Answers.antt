@@ -1,0 +1,5 @@
+use Rattle.flow.proofs.ByNumbers.{networks, tiles, points, cuts}
+use Rattle.flow.proofs.examples.examples.Goals as goal
+
+pub returns : goal.returns
+returns c = record { networks = networks; tiles = tiles; points = points; cuts = cuts }

@@ -1,5 +1,6 @@
 -- What checks come to.
-use Rattle.std.proofs.Common.{◌≡◌, ℕ, Ok, Err, Result, arith}
+use Rattle.std.proofs.Common.{◌≡◌, ℕ, Ok, Err, Result, IsErrAnd, ap, ◌∙◌, arith}
+use Rattle.std.proofs.lemmas.Result.{err_from_is_err_and}
 use Rattle.limits.specs.Checking.{CheckedBy, refused, passed}
 use Rattle.limits.specs.declared.refusal.Refusal.{Refusal}
 
@@ -36,6 +37,14 @@ none_found why e = let z : ◌≡◌ {A = ℕ} 0 1 = cc in absurd (omega arith)
 pub unrefused : {E : Type 0} {of : E → ℕ} {n : ℕ} {e : E} {Holds Rest Rest' X : Type 0} {x : X} {Left' : E → Type 0} → (Rest → Rest') →
     CheckedBy of n e Holds (λ why. ◌≡◌ {A = Result X E} (Ok x) (Err why)) Rest → CheckedBy of n e Holds Left' Rest'
 unrefused rest = mapped (λ why z. none_found why z) rest
+
+-- what the exit of a `?` returns
+pub broke : {X E : Type 0} (answer : Result X E) (why : E) → IsErrAnd answer (λ e. e ≡ why) → answer ≡ Err why
+broke answer why b = let p = err_from_is_err_and answer b in p.1 ∙ ap Err p.2
+
+-- the same refusal, of another answer
+pub same_refusal : {X Y E : Type 0} (why e : E) → ◌≡◌ {A = Result X E} (Err why) (Err e) → ◌≡◌ {A = Result Y E} (Err why) (Err e)
+same_refusal why e z = let same : why ≡ e = cc in ap Err same
 
 -- the cell that they found
 pub same_found : {X : Type 0} {x y : X} → ◌≡◌ {A = Result X Refusal} (Ok x) (Ok y) → x ≡ y

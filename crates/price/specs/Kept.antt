@@ -1,5 +1,5 @@
 -- The shapes of the three prices, and so the laws of the three rules.
-use Rattle.std.specs.Prelude.{◌≡◌, ℕ, ◌+◌, ◌-◌, ◌*◌, ◌≤◌, cond, nat_le}
+use Rattle.std.specs.Prelude.{◌≡◌, ℕ, suc, ◌+◌, ◌-◌, ◌*◌, ◌≤◌, cond, nat_le}
 use Rattle.std.proofs.Common.{ap, ◌∙◌, inl, inr, mul-add, add-mul, mul-one, arith}
 use Rattle.std.proofs.lemmas.Nat.{mul-le}
 use Rattle.std.proofs.lemmas.Bool.{cases_lt, le-leb, lt-leb}
@@ -22,8 +22,8 @@ more t a b e = ap (λ n. t * n) e ∙ mul-add t a 1 ∙ ap (λ n. t * a + n) (mu
 
 pub absolute_shape : (t : ℕ) → Shape (λ v k. t * gap k v) (λ _. t) (λ _. t)
 absolute_shape t = record {
-  rises = λ v n. more t (gap (v + n) v) (gap (v + n + 1) v) (omega arith);
-  falls = λ k n. more t (gap (k + 1) (k + n + 1)) (gap k (k + n + 1)) (omega arith);
+  rises = λ v n. more t (gap (v + n) v) (gap (suc (v + n)) v) (omega arith);
+  falls = λ k n. more t (gap (suc k) (k + n + 1)) (gap k (k + n + 1)) (omega arith);
   up_more = λ _. omega arith;
   down_more = λ _. omega arith;
 }
@@ -59,8 +59,8 @@ squared_most v q k a b c =
 
 pub squared_shape : (t : ℕ) → Shape (λ v k. t * (gap k v * gap k v)) (λ n. t * (2 * n + 1)) (λ n. t * (2 * n + 1))
 squared_shape t = record {
-  rises = λ v n. square_step t (gap (v + n) v) (gap (v + n + 1) v) n (omega arith) (omega arith);
-  falls = λ k n. square_step t (gap (k + 1) (k + n + 1)) (gap k (k + n + 1)) n (omega arith) (omega arith);
+  rises = λ v n. square_step t (gap (v + n) v) (gap (suc (v + n)) v) n (omega arith) (omega arith);
+  falls = λ k n. square_step t (gap (suc k) (k + n + 1)) (gap k (k + n + 1)) n (omega arith) (omega arith);
   up_more = odd_more t;
   down_more = odd_more t;
 }
@@ -85,11 +85,11 @@ leaning_sum t v k = elim (cases_lt v k) [
 pub leaning_shape : (t : ℕ) → Shape (λ v k. cond (nat_le k v) (t * (v - k)) (4 * t * (k - v))) (λ _. 4 * t) (λ _. t)
 leaning_shape t = record {
   rises = λ v n.
-      (let none : t * (v - (v + n + 1)) ≡ t * (v - (v + n)) = ap (λ x. t * x) (omega arith) in
-      omega (arith, leaning_sum t v (v + n), leaning_sum t v (v + n + 1), more (4 * t) (v + n - v) (v + n + 1 - v) (omega arith)));
+      (let none : t * (v - suc (v + n)) ≡ t * (v - (v + n)) = ap (λ x. t * x) (omega arith) in
+      omega (arith, leaning_sum t v (v + n), leaning_sum t v (suc (v + n)), more (4 * t) (v + n - v) (suc (v + n) - v) (omega arith)));
   falls = λ k n.
-      (let none : 4 * t * (k + 1 - (k + n + 1)) ≡ 4 * t * (k - (k + n + 1)) = ap (λ x. 4 * t * x) (omega arith) in
-      omega (arith, leaning_sum t (k + n + 1) k, leaning_sum t (k + n + 1) (k + 1), more t (k + n + 1 - (k + 1)) (k + n + 1 - k) (omega arith)));
+      (let none : 4 * t * (suc k - (k + n + 1)) ≡ 4 * t * (k - (k + n + 1)) = ap (λ x. 4 * t * x) (omega arith) in
+      omega (arith, leaning_sum t (k + n + 1) k, leaning_sum t (k + n + 1) (suc k), more t (k + n + 1 - suc k) (k + n + 1 - k) (omega arith)));
   up_more = λ _. omega arith;
   down_more = λ _. omega arith;
 }

@@ -1,6 +1,7 @@
 -- What a price rule is, the laws that it keeps, and what it answers.
-use Rattle.std.specs.Prelude.{ℕ, ◌+◌, ◌≤◌, Bool, cond, ◌&&◌, ℤ, pos, ◌-ℤ◌, neg_ℤ, ◌≤ℤ◌, nat_le, nat_lt}
+use Rattle.std.specs.Prelude.{ℕ, suc, ◌+◌, ◌≤◌, Bool, cond, ◌&&◌, ℤ, pos, neg_ℤ, ◌≤ℤ◌, nat_le, nat_lt}
 use Rattle.limits.specs.Limits.{most_top, most_class, most_price, most_step}
+use Rattle.theory.specs.Grids.{step_of}
 
 -- a greatest level, and the price of a height: its arguments are the reading, the class and the height
 pub record Rule : Type 0 where
@@ -11,13 +12,9 @@ pub record Rule : Type 0 where
 abbrev pub ruled : (ℕ → ℕ → ℕ → ℕ) → ℕ → Rule
 ruled p t = record { greatest = t; price = p }
 
--- what the next height costs more than height k under a price; it may be negative
-abbrev pub price_step : (ℕ → ℕ → ℕ → ℕ) → ℕ → ℕ → ℕ → ℤ
-price_step p v q k = pos (p v q (k + 1)) -ℤ pos (p v q k)
-
--- and under a rule
+-- what the next height costs more than height k under a rule
 abbrev pub step : Rule → ℕ → ℕ → ℕ → ℤ
-step r = price_step r.price
+step r v q = step_of (r.price v q)
 
 -- the laws of a rule, for readings v and heights k from 0 to its greatest level and classes q up to the greatest class
 pub record Lawful (r : Rule) : Type 0 where
@@ -25,7 +22,7 @@ pub record Lawful (r : Rule) : Type 0 where
   pub level_least : 1 ≤ r.greatest
   pub level_most : r.greatest ≤ most_top
   -- the step never falls when the height rises by 1
-  pub rising_in_height : (v q k : ℕ) → v ≤ r.greatest → q ≤ most_class → k + 2 ≤ r.greatest → step r v q k ≤ℤ step r v q (k + 1)
+  pub rising_in_height : (v q k : ℕ) → v ≤ r.greatest → q ≤ most_class → k + 2 ≤ r.greatest → step r v q k ≤ℤ step r v q (suc k)
   -- the step never rises when the reading rises by 1
   pub falling_in_reading : (v q k : ℕ) → v + 1 ≤ r.greatest → q ≤ most_class → k + 1 ≤ r.greatest → step r (v + 1) q k ≤ℤ step r v q k
   -- the price is at most the greatest price

@@ -1,6 +1,7 @@
 // A curve of prices, and the price rule that it makes for a greatest level.
 ghost use Rattle.std.specs.Prelude.{◌≡◌, ℕ};
-ghost use Rattle.price.specs.Rules.{Lawful, price_step, ruled};
+ghost use Rattle.theory.specs.Grids.{step_of};
+ghost use Rattle.price.specs.Rules.{Lawful, ruled};
 ghost use Rattle.price.specs.Making.{RuleLevel, MadeFor};
 
 use crate::greatest::Greatest;
@@ -19,7 +20,7 @@ pub trait Curve {
 
     // What the next height costs more than this one.
     fn step_at(asked: Question) -> i32
-        ensures { result ≡ price_step price asked.reading asked.class asked.height };
+        ensures { result ≡ step_of (price asked.reading asked.class) asked.height };
 
     // The rule of these prices keeps the laws of price rules, whatever level it is made for.
     ghost lawful: { (t : ℕ) → RuleLevel t → Lawful (ruled price t) };

@@ -2,11 +2,6 @@ use Rattle.std.specs.Prelude.{⊤}
 use Rattle.std.proofs.Common.{◌≡◌, ◌<◌, [], ◌∷◌, ◌++◌, length, Bool, true, false, Result, Ok, Err, refl, sym, true≢false}
 use Rattle.queue.specs.Queue.{waits, capacity, Enqueued, EnqueuedIf}
 use Rattle.queue.specs.declared.Queue.{Queue}
-use Rattle.queue.proofs.Rings.{length_waiting}
-
--- len counts what waits
-pub length_waits : {X : Type 0} (q : Queue X) → length (waits q) ≡ q.len
-length_waits q = length_waiting q.slots.now q.head q.len q.fits
 
 pub last_with_room : {X : Type 0} (old new : Queue X) (x : X) (answer : Result ⊤ X) → Enqueued old new x answer
     → length (waits old) < capacity old → waits new ≡ waits old ++ x ∷ []

@@ -1,5 +1,5 @@
 -- The examples in numbers, computed.
-use Rattle.std.proofs.Common.{◌≡◌, ℕ, zero, suc, ◌+◌, ◌<◌, ◌≤◌, Bool, true, false, cond, ◌&&◌, ◌||◌, not, ◌⊎◌, ℤ, pos, ◌+ℤ◌, ◌<ℤ◌, ◌≤ℤ◌, sym, refl, subst, inl, inr, ⊎_elim, arith}
+use Rattle.std.proofs.Common.{◌≡◌, ℕ, suc, ◌+◌, ◌<◌, ◌≤◌, Bool, true, false, cond, ◌&&◌, ◌||◌, not, ◌⊎◌, ℤ, pos, ◌+ℤ◌, ◌<ℤ◌, ◌≤ℤ◌, sym, refl, subst, inl, inr, ⊎_elim, arith}
 use borrow.Author.Differences.{ints}
 use Rattle.std.specs.Prelude.{T}
 use Rattle.std.specs.List.{ContainsAt as Has}
@@ -12,6 +12,7 @@ use Rattle.theory.specs.Grids.{Problem, energy, Grid, StepsNeverFall, step}
 use Rattle.theory.specs.Levels.{above, LevelsAreSmallest, priced}
 use Rattle.theory.specs.Brackets.{Brackets}
 use Rattle.theory.specs.Examples.{higher_charges, SumsAddUp, GraphsAreRead, CostsOfSets, SmallestOfTheCheapest, ChargesCanBeHigher, FlowsAreRead, CertificatesCanFail, EnergiesOfGrids, GridsCanBeMet, StepsCanBeLowered, BracketsAreRead, ChargesOfHalving, BracketsCanBeMet, nothing, flat, two_readings, three_and_seven, raised, halves}
+use Rattle.theory.proofs.Every.{every, every_passes}
 use Rattle.theory.proofs.Levels.{stacked_lowest}
 use Rattle.theory.proofs.Instance.{only_second, certificate_met}
 
@@ -22,20 +23,6 @@ both P a b u l =
     (λ (k : u < 1). subst P (omega arith) a)
     (λ (k : 1 ≤ u). subst P (omega arith) b)
     (cases_lt u 1)
-
--- a test that passes at every number below n
-abbrev every : ℕ → (ℕ → Bool) → Bool
-every zero test = true
-every (suc n) test = every n test && test n
-
-every_passes : (n : ℕ) (test : ℕ → Bool) → every n test ≡ true → (u : ℕ) → u < n → test u ≡ true
-every_passes zero test e u l = absurd (omega arith)
-every_passes (suc n) test e u l =
-    let parts = and_parts (every n test) (test n) e in
-    ⊎_elim
-    (λ (k : u < n). every_passes n test parts.0 u k)
-    (λ (k : n ≤ u). subst (λ (v : ℕ). test v ≡ true) (omega arith) parts.1)
-    (cases_lt u n)
 
 -- ---- which sets of two cells are cheapest, by their four costs
 

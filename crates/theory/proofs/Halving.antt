@@ -59,19 +59,13 @@ part_same : (wo v w v' w' p q : Bool) (x : ℕ) → (wo ≡ true → p ≡ w) �
     → (cond wo (pay v p x x) 0 + cond wo (pay q w x x) 0) + part wo wo false false true v' w' x ≡ (cond wo (pay v' p x x) 0 + cond wo (pay q w' x x) 0) + part wo wo false false true v w x
 part_same wo v w v' w' p q x h k = grind arith
 
-part_under : (wa wb v w v' w' p q : Bool) (x : ℕ) → (wa ≡ true → p ≡ true) → (wb ≡ true → q ≡ false)
-    → (cond wa (pay v p x x) 0 + cond wb (pay q w x x) 0) + part wa wb true false false v' w' x ≡ (cond wa (pay v' p x x) 0 + cond wb (pay q w' x x) 0) + part wa wb true false false v w x
-part_under true true v w v' w' p q x h k = rw (h refl, k refl) (grind arith)
-part_under true false v w v' w' p q x h k = rw (h refl) (grind arith)
-part_under false true v w v' w' p q x h k = rw (k refl) (grind arith)
-part_under false false v w v' w' p q x h k = grind arith
-
-part_over : (wa wb v w v' w' p q : Bool) (x : ℕ) → (wa ≡ true → p ≡ false) → (wb ≡ true → q ≡ true)
-    → (cond wa (pay v p x x) 0 + cond wb (pay q w x x) 0) + part wa wb false true false v' w' x ≡ (cond wa (pay v' p x x) 0 + cond wb (pay q w' x x) 0) + part wa wb false true false v w x
-part_over true true v w v' w' p q x h k = rw (h refl, k refl) (grind arith)
-part_over true false v w v' w' p q x h k = rw (h refl) (grind arith)
-part_over false true v w v' w' p q x h k = rw (k refl) (grind arith)
-part_over false false v w v' w' p q x h k = grind arith
+-- brackets apart from each other, either way round
+part_apart : (up wa wb v w v' w' p q : Bool) (x : ℕ) → (wa ≡ true → p ≡ up) → (wb ≡ true → q ≡ not up)
+    → (cond wa (pay v p x x) 0 + cond wb (pay q w x x) 0) + part wa wb up (not up) false v' w' x ≡ (cond wa (pay v' p x x) 0 + cond wb (pay q w' x x) 0) + part wa wb up (not up) false v w x
+part_apart up true true v w v' w' p q x h k = rw (h refl, k refl) (grind arith)
+part_apart up true false v w v' w' p q x h k = rw (h refl) (grind arith)
+part_apart up false true v w v' w' p q x h k = rw (k refl) (grind arith)
+part_apart up false false v w v' w' p q x h k = grind arith
 
 -- a tie between cells of heights ha and hb with brackets la..ra and lb..rb: its cost over all levels, and in the halving problem
 abbrev F : (o ha hb la ra lb rb x : ℕ) → Bool → Bool → ℕ
@@ -100,12 +94,12 @@ module _ (o ha hb la ra lb rb x : ℕ) (al : la ≤ ha) (ar : ha ≤ ra) (ac : r
   local v w v' w' (inl e) = rw (← e.0, ← e.1) (local_same la ra ha hb x v w v' w' (omega arith))
   local v w v' w' (inr (inl e)) =
       rw (lt-ltb ra lb e, le-ltb rb la (omega arith), ne_eqb la lb (omega arith))
-      (part_under (wide la ra) (wide lb rb) v w v' w' _ _ x
+      (part_apart true (wide la ra) (wide lb rb) v w v' w' _ _ x
       (λ i. slot_off (wide lb rb) (middle lb rb) w hb (middle la ra) (λ j d. omega (arith, wide_a i, wide_b j)) ∙ lt-ltb (middle la ra) hb (omega (arith, wide_a i)))
       (λ i. slot_off (wide la ra) (middle la ra) v' ha (middle lb rb) (λ j d. omega (arith, wide_b i, wide_a j)) ∙ le-ltb (middle lb rb) ha (omega (arith, wide_b i))))
   local v w v' w' (inr (inr e)) =
       rw (lt-ltb rb la e, le-ltb ra lb (omega arith), ne_eqb la lb (omega arith))
-      (part_over (wide la ra) (wide lb rb) v w v' w' _ _ x
+      (part_apart false (wide la ra) (wide lb rb) v w v' w' _ _ x
       (λ i. slot_off (wide lb rb) (middle lb rb) w hb (middle la ra) (λ j d. omega (arith, wide_a i, wide_b j)) ∙ le-ltb (middle la ra) hb (omega (arith, wide_a i)))
       (λ i. slot_off (wide la ra) (middle la ra) v' ha (middle lb rb) (λ j d. omega (arith, wide_b i, wide_a j)) ∙ lt-ltb (middle lb rb) ha (omega (arith, wide_b i))))
 

@@ -1,4 +1,5 @@
 pub mod Sums
+pub mod Every
 pub mod Least
 pub mod Prices
 pub mod Sets

@@ -39,9 +39,13 @@ pub record LowestCheapestGrid {X : Type 0} (p : Problem X) (h : Heights) : Type 
   pub least : CheapestGrid p h
   pub lowest : (k : Heights) → CheapestGrid p k → (u : ℕ) → u < p.graph.cells → h u ≤ k u
 
+-- the step of a price at height m, what the next height costs more; it may be negative
+abbrev pub step_of : (ℕ → ℕ) → ℕ → ℤ
+step_of price m = pos (price (suc m)) -ℤ pos (price m)
+
 -- what it costs the cell u to go from height m to m + 1
 abbrev pub step : {X : Type 0} → Problem X → ℕ → ℕ → ℤ
-step p m u = pos (p.price u (suc m)) -ℤ pos (p.price u m)
+step p m u = step_of (p.price u) m
 
 -- the step of a cell never falls when the height rises by 1
 abbrev pub StepsNeverFall : {X : Type 0} → Problem X → Type 0

@@ -8,7 +8,7 @@ use Rattle.tile.specs.declared.shape.Shape.{Shape}
 use Rattle.tile.specs.declared.side.Side.{Side}
 use Rattle.tile.specs.declared.side.Side.TheVariants.{Rightward, Downward}
 use Rattle.tile.specs.Shapes.{cells}
-use Rattle.tile.specs.Ties.{Tie, sides, has_neighbour, neighbour, neighbour_within, tie_on, ties_of, ties_below, TiesJoinCells}
+use Rattle.tile.specs.Ties.{Tie, sides, has_neighbour, neighbour, neighbour_within, tie_on, ties_of, ties_below, ties, TiesJoinCells}
 
 -- a cell that is not the last of its row has the next cell in its row
 next_in_row : (rows columns u : ℕ) → 1 ≤ columns → u < rows * columns → u % columns + 1 < columns → u + 1 < rows * columns
@@ -30,21 +30,23 @@ found_inside s u d v l e =
       | inr n ↦ let z : ◌≡◌ {A = ℕ} 0 1 = (let q = rw (lt-ltb u (cells s) l, n) at e in cc) in absurd (omega arith)
     ]
 
--- both ends of the tie are cells
-abbrev Joins : Shape → Tie → Type 0
-Joins s x = (x.cell < cells s) × (neighbour s x.cell x.side < cells s)
+-- a tie of the shape: its cell, and that it has a neighbour there
+abbrev pub Stored : Shape → Tie → Type 0
+Stored s x = (x.cell < cells s) × (has_neighbour s x.cell x.side ≡ true)
 
-tie_joins : (s : Shape) (u : ℕ) (d : Side) → u < cells s → All (Joins s) (tie_on s u d)
-tie_joins s u d l =
-    cond_both (has_neighbour s u d) (record { cell = u; side = d } ∷ []) [] (All (Joins s)) (λ e. ((l, neighbour_inside s u d l e), tt)) (λ e. tt)
+on_stored : (s : Shape) (u : ℕ) (d : Side) → u < cells s → All (Stored s) (tie_on s u d)
+on_stored s u d l = cond_both (has_neighbour s u d) (record { cell = u; side = d } ∷ []) [] (All (Stored s)) (λ e. ((l, e), tt)) (λ e. tt)
 
-sides_join : (s : Shape) (u : ℕ) (ds : List Side) → u < cells s → All (Joins s) (flat_map (tie_on s u) ds)
-sides_join s u [] l = tt
-sides_join s u (d ∷ ds) l = All-append (Joins s) (tie_on s u d) (flat_map (tie_on s u) ds) (tie_joins s u d l) (sides_join s u ds l)
+sides_stored : (s : Shape) (u : ℕ) (ds : List Side) → u < cells s → All (Stored s) (flat_map (tie_on s u) ds)
+sides_stored s u [] l = tt
+sides_stored s u (d ∷ ds) l = All-append (Stored s) (tie_on s u d) (flat_map (tie_on s u) ds) (on_stored s u d l) (sides_stored s u ds l)
 
-below_joins : (s : Shape) (n : ℕ) → n ≤ cells s → All (Joins s) (ties_below s n)
-below_joins s zero l = tt
-below_joins s (suc u) l = All-append (Joins s) (ties_below s u) (ties_of s u) (below_joins s u (omega arith)) (sides_join s u sides (omega arith))
+below_stored : (s : Shape) (n : ℕ) → n ≤ cells s → All (Stored s) (ties_below s n)
+below_stored s zero l = tt
+below_stored s (suc u) l = All-append (Stored s) (ties_below s u) (ties_of s u) (below_stored s u (omega arith)) (sides_stored s u sides (omega arith))
+
+pub ties_stored : (s : Shape) → All (Stored s) (ties s)
+ties_stored s = below_stored s (cells s) (omega arith)
 
 pub ties_join_cells : TiesJoinCells
-ties_join_cells s w x h = all-has (Joins s) (ties_below s (cells s)) x (below_joins s (cells s) (omega arith)) h
+ties_join_cells s w x h = let p = all-has (Stored s) (ties s) x (ties_stored s) h in (p.0, neighbour_inside s x.cell x.side p.0 p.1)

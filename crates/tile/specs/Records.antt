@@ -1,5 +1,5 @@
--- What the record of a cell stores on its sides, and its bracket.
-use Rattle.std.specs.Prelude.{ℕ, Bool, not, ◌&&◌, ◌==◌, ℤ}
+-- What the record of a cell stores on its sides, its bracket, and the record charged anew.
+use Rattle.std.specs.Prelude.{ℕ, Bool, not, ◌&&◌, ◌==◌, ℤ, pos}
 use Rattle.tile.specs.declared.bracket.Bracket.{Bracket}
 use Rattle.tile.specs.declared.cell.Cell.{Cell}
 use Rattle.tile.specs.declared.side.Side.{Side}
@@ -18,6 +18,11 @@ stored_flow c Downward = c.down_flow
 -- the heights that the cell may still take
 abbrev pub stored_bracket : Cell → Bracket
 stored_bracket c = record { low = c.low; high = c.high }
+
+-- the record with this charge, and no flow, mark or rank
+abbrev pub recharged : ℤ → Cell → Cell
+recharged z c =
+    record { reading = c.reading; class = c.class; right = c.right; down = c.down; right_flow = pos 0; down_flow = pos 0; low = c.low; high = c.high; charge = z; mark = 0; rank = 0 }
 
 -- the two cells have the same bracket, and it is not settled
 abbrev pub share_bracket : Cell → Cell → Bool

@@ -1,18 +1,18 @@
 -- The live ties of a tile, one by one.
-use Rattle.std.proofs.Common.{◌≡◌, ℕ, zero, suc, ◌+◌, ◌<◌, ◌≤◌, Bool, true, List, [], ◌∷◌, filter, refl, ap, ◌∙◌, subst, ⊎_elim, arith}
-use Rattle.std.specs.List.{flat_map, ContainsAt as Has, AllByRecursion as All}
+use Rattle.std.proofs.Common.{◌≡◌, ℕ, zero, suc, ◌+◌, ◌<◌, Bool, true, [], ◌∷◌, filter, refl, ap, ◌∙◌, subst, ⊎_elim, arith}
+use Rattle.std.specs.List.{flat_map, ContainsAt as Has}
 use Rattle.std.proofs.lemmas.List.Elements.{filter-append}
-use Rattle.std.proofs.ByRecursion.{all-has, All-append, all_kept_by, kept_by_passes, has_append_left, has_append_right}
-use Rattle.std.proofs.lemmas.Bool.{cases_eq, cond_both, and_parts}
+use Rattle.std.proofs.ByRecursion.{all-has, all_kept_by, kept_by_passes, has_append_left, has_append_right}
+use Rattle.std.proofs.lemmas.Bool.{cases_eq, and_parts}
 use Rattle.theory.specs.Graphs.{Proper}
 use Rattle.theory.specs.Brackets.{live}
 use Rattle.tile.specs.declared.shape.Shape.{Shape}
 use Rattle.tile.specs.declared.side.Side.{Side}
 use Rattle.tile.specs.declared.side.Side.TheVariants.{Rightward, Downward}
 use Rattle.tile.specs.Shapes.{cells}
-use Rattle.tile.specs.Ties.{offset, Tie, sides, has_neighbour, neighbour, tie_on, ties_of, ties_below, ties}
+use Rattle.tile.specs.Ties.{offset, Tie, has_neighbour, neighbour, tie_on, ties_of, ties_below, ties}
 use Rattle.tile.specs.Tiles.{Tile, cell}
-use Rattle.tile.proofs.Joins.{neighbour_inside}
+use Rattle.tile.proofs.Joins.{neighbour_inside, Stored, ties_stored}
 use Rattle.flow.specs.Sides.{live_pair}
 use Rattle.flow.specs.Networks.{brackets, weighted, network, is_live}
 
@@ -37,21 +37,6 @@ live_by_pair s w t same a d l e =
     let q : lives s w (tie_at a d) ≡ live_pair t a (neighbour s a d) = cc in
     q ∙ ap (λ (b : ℕ). live_pair t a b) (neighbour_is s a d)
 
--- a tie of the shape: its cell, and that it has a neighbour there
-abbrev Stored : Shape → Tie → Type 0
-Stored s x = (x.cell < cells s) × (has_neighbour s x.cell x.side ≡ true)
-
-on_stored : (s : Shape) (u : ℕ) (d : Side) → u < cells s → All (Stored s) (tie_on s u d)
-on_stored s u d l = cond_both (has_neighbour s u d) (tie_at u d ∷ []) [] (All (Stored s)) (λ e. ((l, e), tt)) (λ e. tt)
-
-sides_stored : (s : Shape) (u : ℕ) (ds : List Side) → u < cells s → All (Stored s) (flat_map (tie_on s u) ds)
-sides_stored s u [] l = tt
-sides_stored s u (d ∷ ds) l = All-append (Stored s) (tie_on s u d) (flat_map (tie_on s u) ds) (on_stored s u d l) (sides_stored s u ds l)
-
-below_stored : (s : Shape) (n : ℕ) → n ≤ cells s → All (Stored s) (ties_below s n)
-below_stored s zero l = tt
-below_stored s (suc u) l = All-append (Stored s) (ties_below s u) (ties_of s u) (below_stored s u (omega arith)) (sides_stored s u sides (omega arith))
-
 -- what is known of a tie of the network
 pub record LiveTie (s : Shape) (t : Tile) (x : Tie) : Type 0 where
   pub within : x.cell < cells s
@@ -60,7 +45,7 @@ pub record LiveTie (s : Shape) (t : Tile) (x : Tie) : Type 0 where
 
 pub live_tie : (s : Shape) (t : Tile) (x : Tie) → Has (network s t).ties x → LiveTie s t x
 live_tie s t x h =
-    let p = all-has (Stored s) (filter (lives s t) (ties s)) x (all_kept_by (lives s t) (Stored s) (ties s) (below_stored s (cells s) (omega arith))) h in
+    let p = all-has (Stored s) (filter (lives s t) (ties s)) x (all_kept_by (lives s t) (Stored s) (ties s) (ties_stored s)) h in
     let q = all-has (λ y. lives s t y ≡ true) (filter (lives s t) (ties s)) x (kept_by_passes (lives s t) (ties s)) h in
     record { within = p.0; tied = p.1; alive = q }
 

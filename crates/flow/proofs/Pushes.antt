@@ -1,8 +1,8 @@
 -- One push: what it changes, and what it keeps.
-use Rattle.std.proofs.Common.{◌≡◌, ℕ, ◌+◌, ◌-◌, ◌<◌, ◌≤◌, Bool, true, false, cond, eqb, ltb, leb, ◌⊎◌, Some, None, rules, length, ℤ, pos, negsuc, ◌+ℤ◌, ◌-ℤ◌, neg_ℤ, nat_abs, ◌≤ℤ◌, ◌<ℤ◌, sym, refl, ap, ◌∙◌, subst, inl, inr, ⊎_elim, arith}
+use Rattle.std.proofs.Common.{◌≡◌, ℕ, ◌+◌, ◌-◌, ◌<◌, ◌≤◌, Bool, true, false, cond, eqb, ltb, leb, ◌⊎◌, Some, None, w32, SFits, to_z, of_z, rules, length, ℤ, pos, negsuc, ◌+ℤ◌, ◌-ℤ◌, neg_ℤ, nat_abs, ◌≤ℤ◌, ◌<ℤ◌, sym, refl, ap, ◌∙◌, subst, inl, inr, ⊎_elim, arith}
 use borrow.Author.Differences.{down}
 use Rattle.std.proofs.lemmas.Bool.{cases_eq, eq-eqb, ne_eqb, leb-true, ltb-true, both_ways}
-use Rattle.std.proofs.lemmas.Int.{ints}
+use Rattle.std.proofs.lemmas.Int.{ints, to_z-of_z}
 use Rattle.flow.specs.declared.direction.Direction.{Direction}
 use Rattle.flow.specs.declared.direction.Direction.TheVariants.{Right, Down, Left, Up}
 use Rattle.tile.specs.declared.side.Side.{Side}
@@ -17,6 +17,10 @@ use Rattle.flow.proofs.Fields.{flow_added, down_added_right, right_added_down, r
 pub found_is : (x : Bool) (a v : ℕ) → Some v ≡ cond x (Some a) None → (x ≡ true) × (v ≡ a)
 found_is true a v e = (refl, search rules)
 found_is false a v e = absurd (search rules)
+
+-- a number that is handed over keeps its value
+pub as_handed_over : (z : ℤ) → SFits w32 z → to_z w32 (of_z w32 z) ≡ z
+as_handed_over z f = to_z-of_z w32 z f
 
 -- the parts of a residual arc
 pub open_parts : (x y : Bool) (z : ℤ) → pos 0 <ℤ cond x (cond y z (pos 0)) (pos 0) → (x ≡ true) × (y ≡ true) × (cond x (cond y z (pos 0)) (pos 0) ≡ z)
@@ -90,33 +94,38 @@ flow_after t Downward Rightward a z b l = inr (right_added_down t a z b)
 flow_after t Rightward Rightward a z b l = near t Rightward a z b l
 flow_after t Downward Downward a z b l = near t Downward a z b l
 
-pub sound_bumped : (c : ℕ) (t : Tile) (d : Side) (a : ℕ) (z : ℤ) → Admissible c t → a < length t → live_pair t a (a + offset c d) ≡ true → nat_abs (stored_flow (cell t a) d +ℤ z) ≤ stored_tie (cell t a) d → Admissible c (add_flow t d a z)
+-- records with the same survey, and flows within the weights of live ties
+sound_still : (c : ℕ) (t t' : Tile) → SameSurvey t t' → Admissible c t → ((e : Side) (b : ℕ) → nat_abs (stored_flow (cell t' b) e) ≤ stored_tie (cell t b) e)
+    → ((e : Side) (b : ℕ) → live_pair t b (b + offset c e) ≡ false → stored_flow (cell t' b) e ≡ pos 0) → Admissible c t'
+sound_still c t t' st s bounded idle = record {
+  wide = s.wide;
+  wide_few = s.wide_few;
+  few = subst (λ (k : ℕ). k ≤ 16384) (sym st.long) s.few;
+  charges = λ b. subst (λ (k : ℤ). nat_abs k ≤ 300000) (sym (charge_still t t' st b)) (s.charges b);
+  weights = λ e b. subst (λ (k : ℕ). k ≤ 10000) (sym (weight_still t t' st e b)) (s.weights e b);
+  bounded = λ e b. subst (λ (k : ℕ). nat_abs (stored_flow (cell t' b) e) ≤ k) (sym (weight_still t t' st e b)) (bounded e b);
+  idle = λ e b n. idle e b (sym (live_still t t' st b (b + offset c e)) ∙ n);
+}
+
+sound_bumped : (c : ℕ) (t : Tile) (d : Side) (a : ℕ) (z : ℤ) → Admissible c t → a < length t → live_pair t a (a + offset c d) ≡ true → nat_abs (stored_flow (cell t a) d +ℤ z) ≤ stored_tie (cell t a) d → Admissible c (add_flow t d a z)
 sound_bumped c t d a z s l al fits =
-    let st = still_added t d a z in
-    record {
-      wide = s.wide;
-      wide_few = s.wide_few;
-      few = subst (λ (k : ℕ). k ≤ 16384) (sym st.long) s.few;
-      charges = λ b. subst (λ (k : ℤ). nat_abs k ≤ 300000) (sym (charge_still t _ st b)) (s.charges b);
-      weights = λ e b. subst (λ (k : ℕ). k ≤ 10000) (sym (weight_still t _ st e b)) (s.weights e b);
-      bounded = λ e b. subst (λ (k : ℕ). nat_abs (stored_flow (cell (add_flow t d a z) b) e) ≤ k) (sym (weight_still t _ st e b))
-          (⊎_elim
-          (λ (q : (d ≡ e) × (b ≡ a) × (stored_flow (cell (add_flow t d a z) b) e ≡ stored_flow (cell t b) e +ℤ z)).
-          subst (λ (k : ℤ). nat_abs k ≤ stored_tie (cell t b) e) (sym q.2)
-          (subst (λ (k : ℕ). nat_abs (stored_flow (cell t k) e +ℤ z) ≤ stored_tie (cell t k) e) (sym q.1)
-          (subst (λ (k : Side). nat_abs (stored_flow (cell t a) k +ℤ z) ≤ stored_tie (cell t a) k) q.0 fits)))
-          (λ (q : stored_flow (cell (add_flow t d a z) b) e ≡ stored_flow (cell t b) e). subst (λ (k : ℤ). nat_abs k ≤ stored_tie (cell t b) e) (sym q) (s.bounded e b))
-          (flow_after t d e a z b l));
-      idle = λ e b n.
-          let n' : live_pair t b (b + offset c e) ≡ false = sym (live_still t _ st b (b + offset c e)) ∙ n in
-          ⊎_elim
-          (λ (q : (d ≡ e) × (b ≡ a) × (stored_flow (cell (add_flow t d a z) b) e ≡ stored_flow (cell t b) e +ℤ z)).
-          let al' : live_pair t b (b + offset c e) ≡ true
-          = subst (λ (k : ℕ). live_pair t k (k + offset c e) ≡ true) (sym q.1) (subst (λ (k : Side). live_pair t a (a + offset c k) ≡ true) q.0 al) in
-          absurd (both_ways _ n' al'))
-          (λ (q : stored_flow (cell (add_flow t d a z) b) e ≡ stored_flow (cell t b) e). q ∙ s.idle e b n')
-          (flow_after t d e a z b l);
-    }
+    sound_still c t (add_flow t d a z) (still_added t d a z) s
+    (λ e b.
+    ⊎_elim
+    (λ (q : (d ≡ e) × (b ≡ a) × (stored_flow (cell (add_flow t d a z) b) e ≡ stored_flow (cell t b) e +ℤ z)).
+    subst (λ (k : ℤ). nat_abs k ≤ stored_tie (cell t b) e) (sym q.2)
+    (subst (λ (k : ℕ). nat_abs (stored_flow (cell t k) e +ℤ z) ≤ stored_tie (cell t k) e) (sym q.1)
+    (subst (λ (k : Side). nat_abs (stored_flow (cell t a) k +ℤ z) ≤ stored_tie (cell t a) k) q.0 fits)))
+    (λ (q : stored_flow (cell (add_flow t d a z) b) e ≡ stored_flow (cell t b) e). subst (λ (k : ℤ). nat_abs k ≤ stored_tie (cell t b) e) (sym q) (s.bounded e b))
+    (flow_after t d e a z b l))
+    (λ e b n.
+    ⊎_elim
+    (λ (q : (d ≡ e) × (b ≡ a) × (stored_flow (cell (add_flow t d a z) b) e ≡ stored_flow (cell t b) e +ℤ z)).
+    let al' : live_pair t b (b + offset c e) ≡ true
+    = subst (λ (k : ℕ). live_pair t k (k + offset c e) ≡ true) (sym q.1) (subst (λ (k : Side). live_pair t a (a + offset c k) ≡ true) q.0 al) in
+    absurd (both_ways _ n al'))
+    (λ (q : stored_flow (cell (add_flow t d a z) b) e ≡ stored_flow (cell t b) e). q ∙ s.idle e b n)
+    (flow_after t d e a z b l))
 
 fits_forth : (w : ℕ) (x f : ℤ) → nat_abs x ≤ w → pos 0 <ℤ f → f ≤ℤ (pos w -ℤ x) → nat_abs (x +ℤ f) ≤ w
 fits_forth w x f b o k = omega (arith, ints)
@@ -197,16 +206,9 @@ eased_trans c t t' t'' p q = record { still = still_trans t t' t'' p.still q.sti
 
 pub sound_level : (c : ℕ) (t t' : Tile) → SameFlows t t' → Admissible c t → Admissible c t'
 sound_level c t t' p s =
-    let st = level_still t t' p in
-    record {
-      wide = s.wide;
-      wide_few = s.wide_few;
-      few = subst (λ (k : ℕ). k ≤ 16384) (sym st.long) s.few;
-      charges = λ b. subst (λ (k : ℤ). nat_abs k ≤ 300000) (sym (charge_still t _ st b)) (s.charges b);
-      weights = λ e b. subst (λ (k : ℕ). k ≤ 10000) (sym (weight_still t _ st e b)) (s.weights e b);
-      bounded = λ e b. subst (λ (k : ℕ). nat_abs (stored_flow (cell t' b) e) ≤ k) (sym (weight_still t _ st e b)) (subst (λ (k : ℤ). nat_abs k ≤ stored_tie (cell t b) e) (sym (flow_level t t' p e b)) (s.bounded e b));
-      idle = λ e b n. flow_level t t' p e b ∙ s.idle e b (sym (live_still t t' st b (b + offset c e)) ∙ n);
-    }
+    sound_still c t t' (level_still t t' p) s
+    (λ e b. subst (λ (k : ℤ). nat_abs k ≤ stored_tie (cell t b) e) (sym (flow_level t t' p e b)) (s.bounded e b))
+    (λ e b n. flow_level t t' p e b ∙ s.idle e b n)
 
 pub eased_level : (c : ℕ) (t t' : Tile) → SameFlows t t' → Admissible c t → Eased c t t'
 eased_level c t t' p s = record {

@@ -1,12 +1,13 @@
 -- Flows as the cells see them, by their four sides and with no column arithmetic: a tie off the edge weighs nothing, so
 -- nothing ever runs over it. A tile here is a whole list of records in rows of c.
-use Rattle.std.specs.Prelude.{◌≡◌, ℕ, ◌+◌, ◌-◌, ◌*◌, ◌<◌, ◌≤◌, Bool, true, false, cond, Some, None, Option, length, ℤ, pos, ◌+ℤ◌, ◌-ℤ◌, neg_ℤ, ◌≤ℤ◌, ◌<ℤ◌, nat_le, nat_lt, slice_set, unsigned_abs}
+use Rattle.std.specs.Prelude.{◌≡◌, ℕ, ◌+◌, ◌-◌, ◌*◌, ◌<◌, ◌≤◌, Bool, true, false, cond, Some, None, Option, length, ℤ, pos, ◌+ℤ◌, ◌-ℤ◌, neg_ℤ, ◌≤ℤ◌, ◌<ℤ◌, int_lt, nat_le, nat_lt, slice_set, unsigned_abs}
+use Rattle.std.specs.Int.{int_min}
 use borrow.Author.Differences.{down}
 use Rattle.limits.specs.Limits.{most_charge, most_tie, most_columns, most_strip_rows}
 use Rattle.tile.specs.declared.cell.Cell.{Cell}
 use Rattle.tile.specs.declared.side.Side.{Side}
 use Rattle.tile.specs.declared.side.Side.TheVariants.{Rightward, Downward}
-use Rattle.tile.specs.Records.{stored_tie, stored_flow, share_bracket}
+use Rattle.tile.specs.Records.{stored_tie, stored_flow, recharged, share_bracket}
 use Rattle.tile.specs.Ties.{offset}
 use Rattle.tile.specs.Tiles.{Tile, cell}
 use Rattle.theory.specs.Sums.{sum}
@@ -38,13 +39,19 @@ has_beside c n Up u = nat_le c u
 abbrev pub found_beside : ℕ → ℕ → Direction → ℕ → Option ℕ
 found_beside c n h u = cond (has_beside c n h u) (Some (beside c h u)) None
 
--- the side on which a tie in this direction is stored, and the flow over it out of the cell, when it is f away from the
--- cell that stores it
+-- the side on which a tie in this direction is stored, its two cells with the one that stores it first, and the flow over it out of
+-- the cell, when it is f away from the cell that stores it
 abbrev pub side_of : Direction → Side
 side_of Right = Rightward
 side_of Down = Downward
 side_of Left = Rightward
 side_of Up = Downward
+
+abbrev pub storing_first : Direction → ℕ → ℕ → ℕ × ℕ
+storing_first Right u v = (u, v)
+storing_first Down u v = (u, v)
+storing_first Left u v = (v, u)
+storing_first Up u v = (v, u)
 
 abbrev pub flow_out : Direction → ℤ → ℤ
 flow_out Right f = f
@@ -104,7 +111,7 @@ pushed t c Up u f = add_flow t Downward (u - c) (neg_ℤ f)
 
 -- a record without what a cut writes; and without its mark and rank alone
 abbrev pub uncut : Cell → Cell
-uncut c = record { reading = c.reading; class = c.class; right = c.right; down = c.down; right_flow = pos 0; down_flow = pos 0; low = c.low; high = c.high; charge = c.charge; mark = 0; rank = 0 }
+uncut c = recharged c.charge c
 
 abbrev pub unranked : Cell → Cell
 unranked c = record { reading = c.reading; class = c.class; right = c.right; down = c.down; right_flow = c.right_flow; down_flow = c.down_flow; low = c.low; high = c.high; charge = c.charge; mark = 0; rank = 0 }
@@ -141,6 +148,16 @@ pub record Sent (c : ℕ) (h : Direction) (u : ℕ) (t t' : Tile) (r : Bool) : T
   pub none : r ≡ false → t' ≡ t
   pub sure : pos 0 <ℤ room t c h u → InSurplus t c (beside c h u) → r ≡ true
   pub eased : Eased c t t'
+
+-- how much can be sent out of u in this direction: the least of what remains of the cell there, of the most that is asked for,
+-- and of the room; nothing where that is not above 0
+abbrev pub what_fits : Tile → ℕ → Direction → ℕ → ℤ → ℤ
+what_fits t c h u most = int_min (int_min (remains t c (beside c h u)) most) (room t c h u)
+
+-- u has given exactly f, if that is above 0, and r tells whether it is; else nothing has changed
+pub record Given (c : ℕ) (h : Direction) (u : ℕ) (f : ℤ) (t t' : Tile) (r : Bool) : Type 0 where
+  pub told : r ≡ int_lt (pos 0) f
+  pub tile : t' ≡ cond r (pushed t c h u f) t
 
 -- deficit cells, and the cells that residual arcs reach from one
 pub data Reach (c : ℕ) (t : Tile) : ℕ → Type 0 where

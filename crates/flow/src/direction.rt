@@ -1,7 +1,7 @@
 // The directions in which a neighbour lies.
 ghost use Rattle.std.specs.Prelude.{◌≡◌, ◌*◌, ◌≤◌, unsigned_abs};
 ghost use Rattle.limits.specs.Limits.{most_tie};
-ghost use Rattle.flow.specs.Sides.{opposite, side_of, flow_out};
+ghost use Rattle.flow.specs.Sides.{opposite, side_of, storing_first, flow_out};
 
 use tile::Side;
 
@@ -41,6 +41,16 @@ impl Direction {
         match self {
             Direction::Right | Direction::Left => Side::Rightward,
             Direction::Down | Direction::Up => Side::Downward,
+        }
+    }
+
+    // A cell u and the one beside it in this direction, v: first the one that stores the tie between them.
+    pub(crate) fn storing_first(self, u: usize, v: usize) -> (usize, usize)
+        ensures { result ≡ storing_first self u v }
+    {
+        match self {
+            Direction::Right | Direction::Down => (u, v),
+            Direction::Left | Direction::Up => (v, u),
         }
     }
 

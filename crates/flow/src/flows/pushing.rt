@@ -1,6 +1,5 @@
 // One push.
 ghost use Rattle.std.specs.Prelude.{◌≡◌, ◌*◌, ◌<◌, ◌≤◌, length, unsigned_abs};
-ghost use Rattle.std.specs.Int.{int_min};
 ghost use Rattle.limits.specs.Limits.{most_tie};
 ghost use Rattle.tile.specs.Records.{stored_flow};
 ghost use Rattle.tile.specs.Tiles.{cell};
@@ -22,16 +21,9 @@ fn raise(tile: &mut [Cell], a: usize, side: Side, more: i32)
     }
 }
 
-// What fits: the least of a surplus, of what is asked and of the room.
-fn what_fits(surplus: i32, most: i32, room: i32) -> i32
-    ensures { result ≡ int_min (int_min surplus most) room }
-{
-    surplus.min(most).min(room)
-}
-
 impl<'a> Flows<'a> {
     ghost use Rattle.std.specs.Prelude.{Some, pos, ◌≤ℤ◌, ◌<ℤ◌};
-    ghost use Rattle.flow.specs.Sides.{found_beside, remains, room, pushed, Sent};
+    ghost use Rattle.flow.specs.Sides.{beside, found_beside, room, pushed, what_fits, Given, Sent};
     ghost use Rattle.flow.specs.Lent.{SameRows};
 
     // f more out of u to v, which lies in a direction.
@@ -44,7 +36,20 @@ impl<'a> Flows<'a> {
         ensures rows { SameRows self.old self.new }
         ensures pushed { self.new.tile.now ≡ pushed self.old.tile.now self.old.columns toward u f }
     {
-        raise(self.tile, u.min(v), toward.side(), toward.flow_out(f));
+        let (storing, _) = toward.storing_first(u, v);
+        raise(self.tile, storing, toward.side(), toward.flow_out(f));
+    }
+
+    // How much can be sent out of u to v, which lies in a direction: no more than v has in surplus, than is asked for, and than
+    // there is room for.
+    #[tactic(auto, using(crate::proofs::Pushes::as_handed_over))]
+    fn what_fits(&self, u: usize, v: usize, toward: Direction, most: i32) -> i32
+        requires place { (u < length self.now.tile.now) × (v < length self.now.tile.now) }
+        requires beside { v ≡ beside self.now.columns toward u }
+        ensures value { result ≡ what_fits self.now.tile.now self.now.columns toward u most }
+        ensures few { result ≤ℤ pos (2 * most_tie) }
+    {
+        self.remainder(v).min(most).min(self.room(u, toward))
     }
 
     // Moves what fits out of u in a direction, at most `most`, and no more than the cell there has in surplus.
@@ -53,12 +58,13 @@ impl<'a> Flows<'a> {
         requires place { u < length self.old.tile.now }
         requires some { pos 0 <ℤ most }
         ensures rows { SameRows self.old self.new }
+        ensures amount { Given self.old.columns toward u (what_fits self.old.tile.now self.old.columns toward u most) self.old.tile.now self.new.tile.now result }
         ensures sent { Sent self.old.columns toward u self.old.tile.now self.new.tile.now result }
     {
         let Some(v) = self.beside(u, toward) else {
             return false;
         };
-        let f = what_fits(self.remainder(v), most, self.room(u, toward));
+        let f = self.what_fits(u, v, toward, most);
         if f <= 0 {
             return false;
         }

@@ -1,5 +1,5 @@
 // Remainders and residual arcs.
-ghost use Rattle.std.specs.Prelude.{◌≡◌, ◌+◌, ◌-◌, ◌*◌, ◌<◌, ◌≤◌, length, pos, ◌+ℤ◌, ◌-ℤ◌, if◌then◌else◌, int_lt, nat_le, unsigned_abs};
+ghost use Rattle.std.specs.Prelude.{◌≡◌, ◌+◌, ◌-◌, ◌*◌, ◌<◌, ◌≤◌, length, pos, ◌+ℤ◌, ◌-ℤ◌, if◌then◌else◌, false, int_lt, nat_le, unsigned_abs};
 ghost use Rattle.limits.specs.Limits.{most_charge, most_tie};
 ghost use Rattle.tile.specs.Records.{stored_tie, stored_flow};
 ghost use Rattle.tile.specs.Ties.{offset};
@@ -66,6 +66,14 @@ impl<'a> Flows<'a> {
         self.remainder(u) < 0
     }
 
+    // Is a cell in surplus?
+    pub fn in_surplus(&self, u: usize) -> bool
+        requires { u < length self.now.tile.now }
+        ensures { result ≡ int_lt (pos 0) (remains self.now.tile.now self.now.columns u) }
+    {
+        self.remainder(u) > 0
+    }
+
     // The cell in a direction, where there is a record.
     pub fn beside(&self, u: usize, toward: Direction) -> Option<usize>
         requires { u < length self.now.tile.now }
@@ -100,17 +108,30 @@ impl<'a> Flows<'a> {
         ensures value { result ≡ room self.now.tile.now self.now.columns toward u }
         ensures few { unsigned_abs result ≤ 2 * most_tie }
     {
-        match self.beside(u, toward) {
-            Some(v) => self.slack(u.min(v), u.max(v), toward),
-            None => 0,
-        }
+        let Some(v) = self.beside(u, toward) else {
+            return 0;
+        };
+        let (a, b) = toward.storing_first(u, v);
+        self.slack(a, b, toward)
     }
 
-    // Does a residual arc lead out of u in a direction?
+    // Does the tie from a to b take more in a direction along it?
+    fn has_slack(&self, a: usize, b: usize, toward: Direction) -> bool
+        requires { (a < length self.now.tile.now) × (b < length self.now.tile.now) }
+        ensures { result ≡ (if live_pair self.now.tile.now a b then int_lt (flow_out toward (stored_flow (cell self.now.tile.now a) (side_of toward))) (pos (stored_tie (cell self.now.tile.now a) (side_of toward))) else false) }
+    {
+        let (tile, side) = (&*self.tile, toward.side());
+        let live = tile[a].shares_bracket(&tile[b]);
+        live & (toward.flow_out(tile[a].flow(side)) < i32::from(tile[a].tie(side)))
+    }
+
+    // Does a residual arc lead out of u in a direction? Written without a branch, as a search would have it guessed wrong too often.
     pub fn is_residual(&self, u: usize, toward: Direction) -> bool
         requires { u < length self.now.tile.now }
         ensures { result ≡ int_lt (pos 0) (room self.now.tile.now self.now.columns toward u) }
     {
-        self.room(u, toward) > 0
+        let beside = self.beside(u, toward);
+        let (a, b) = toward.storing_first(u, beside.unwrap_or(u));
+        beside.is_some() & self.has_slack(a, b, toward)
     }
 }

@@ -10,7 +10,7 @@
  * several threads at a time, and a call may run in an interrupt. Nothing checks what this paragraph asks of the host; what the functions then
  * answer and write is proved.
  *
- * Stack. Less than 2 KiB for a call, as measured; rounds and files by augmenting paths need 17 KiB more, and yolanthuk_cut_by_paths
+ * Stack. Less than 4 KiB for a call, as measured; rounds and files by augmenting paths need 17 KiB more, and yolanthuk_cut_by_paths
  * 65 KiB more.
  *
  * Linking. libhost.a needs memset of the C library, and nothing else.

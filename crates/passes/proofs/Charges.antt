@@ -1,37 +1,28 @@
 -- The charge of a cell, and that charging leaves alone what it depends on.
-use Rattle.std.proofs.Common.{◌≡◌, ℕ, suc, ◌+◌, ◌<◌, ◌≤◌, true, false, ◌&&◌, ltb, leb, length, set, ℤ, pos, ◌+ℤ◌, ◌-ℤ◌, neg_ℤ, nat_abs, ◌≤ℤ◌, sym, refl, ap, ◌∙◌, subst, ap₂, inl, inr, ⊎_elim, add-one, arith, below_more}
+use Rattle.std.proofs.Common.{◌≡◌, ℕ, ◌+◌, ◌<◌, ◌≤◌, false, ◌&&◌, ltb, leb, length, set, ℤ, pos, ◌+ℤ◌, ◌-ℤ◌, neg_ℤ, nat_abs, ◌≤ℤ◌, sym, refl, ap, ◌∙◌, subst, ap₂, inl, inr, ⊎_elim, arith, below_more}
 use mathlib.Core.Path.{fun_ext}
 use Rattle.std.proofs.lemmas.Int.{ints}
-use Rattle.std.proofs.lemmas.Bool.{cases_lt, cases_order, cond-true, cond-false, cond_both, and_from, and_parts, leb-true, ltb-true, eqb-false, le-leb, lt-ltb}
+use Rattle.std.proofs.lemmas.Bool.{cases_lt, cases_order, cond-false, cond_both, and_parts, leb-true, ltb-true, eqb-false}
 use Rattle.limits.specs.Limits.{most_charge, most_class, most_step, most_tie}
-use Rattle.price.specs.Rules.{Rule, Lawful, known, priced, stepped, step as rule_step}
+use Rattle.price.specs.Rules.{Rule, Lawful, known, stepped, step as rule_step}
+use Rattle.price.proofs.Answered.{knows, stepped_is}
 use Rattle.theory.specs.Brackets.{Brackets, middle, settled, lies_below, tied_to, halving_charges}
 use Rattle.theory.specs.Grids.{step}
 use Rattle.tile.specs.declared.cell.Cell.{Cell}
 use Rattle.tile.specs.declared.shape.Shape.{Shape}
 use Rattle.tile.specs.declared.side.Side.{Side}
 use Rattle.tile.specs.declared.side.Side.TheVariants.{Rightward, Downward}
-use Rattle.tile.specs.Records.{stored_tie, stored_flow}
+use Rattle.tile.specs.Records.{stored_tie, stored_flow, recharged}
 use Rattle.tile.specs.Shapes.{cells}
 use Rattle.tile.specs.Tiles.{Tile, cell, Survey, survey, problem}
 use Rattle.flow.specs.Networks.{weighted, brackets}
 use Rattle.flow.specs.Points.{Cuttable}
 use Rattle.passes.specs.Rounds.{charge_in, Chargeable}
 use Rattle.passes.specs.Soundness.{SoundTie}
-use Rattle.passes.specs.Writing.{recharged, rewritten}
+use Rattle.passes.specs.Writing.{rewritten}
 use Rattle.passes.proofs.Rewrites.{rewritten_length, cell_rewritten, cell_past, rewrite_step}
 
 -- ---- the step at the middle
-
--- a rule that knows the reading and the class answers with its price up to its greatest level
-priced_is : (r : Rule) (v q k : ℕ) → known r.greatest v q ≡ true → k ≤ r.greatest → priced r v q k ≡ r.price v q k
-priced_is r v q k e l = cond-true (known r.greatest v q && leb k r.greatest) (r.price v q k) 0 (and_from _ _ e (le-leb _ _ l))
-
--- and with its step below that
-stepped_is : (r : Rule) (v q k : ℕ) → known r.greatest v q ≡ true → k < r.greatest → stepped r v q k ≡ pos (priced r v q (suc k)) -ℤ pos (priced r v q k)
-stepped_is r v q k e l =
-    cond-true (known r.greatest v q && ltb k r.greatest) (rule_step r v q k) (pos 0) (and_from _ _ e (lt-ltb _ _ l))
-    ∙ ap₂ (λ (x y : ℕ). pos x -ℤ pos y) (ap (r.price v q) (add-one k) ∙ sym (priced_is r v q (suc k) e (omega arith))) (sym (priced_is r v q k e (omega arith)))
 
 abs_few : (z : ℤ) (n : ℕ) → neg_ℤ (pos n) ≤ℤ z → z ≤ℤ pos n → nat_abs z ≤ n
 abs_few z n p q = omega (arith, ints)
@@ -64,7 +55,7 @@ charge_is rule s t fit far u l wide z w ez ew =
     let m : middle c.low c.high < s.top = below_top c.low c.high s.top (fit.lows u l) (fit.highs u l) (eqb-false c.low c.high wide) in
     let v : c.reading ≤ rule.greatest = omega (arith, fit.readings u l) in
     let k : middle c.low c.high < rule.greatest = omega arith in
-    let here = stepped_is rule c.reading c.class (middle c.low c.high) (and_from _ _ (le-leb _ _ v) (le-leb _ _ (fit.classes u l))) k in
+    let here = stepped_is rule c.reading c.class (middle c.low c.high) (knows rule c.reading c.class v (fit.classes u l)) k in
     ap₂ (λ (x y : ℤ). x +ℤ y) (ez ∙ here) ew
     ∙ regroup (step (problem rule s (survey t)) (middle (cell t u).low (cell t u).high) u) (tied_to (weighted s t) u (λ v. lies_below (brackets t) v u)) (tied_to (weighted s t) u (λ v. lies_below (brackets t) u v))
     ∙ sym (cond-false (settled (brackets t) u) (pos 0) _ wide)

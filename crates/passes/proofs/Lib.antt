@@ -1,5 +1,7 @@
 pub mod Rewrites
 pub mod Sounds
+pub mod Tables
+pub mod Rows
 pub mod Pulls
 pub mod Charges
 pub mod Copies

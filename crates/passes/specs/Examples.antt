@@ -3,11 +3,12 @@ use Rattle.std.specs.Prelude.{◌≡◌, ℕ, [], ◌∷◌, pos, neg_ℤ}
 use Rattle.price.specs.Kinds.{squared}
 use Rattle.tile.specs.declared.side.Side.TheVariants.{Rightward}
 use Rattle.tile.specs.Halving.{from_to}
+use Rattle.tile.specs.Records.{recharged}
 use Rattle.tile.specs.Tiles.{blank}
 use Rattle.tile.specs.Examples.{two_in_a_row, first, second, settled_at_seven, pair}
 use Rattle.flow.specs.Examples.{before}
 use Rattle.passes.specs.Soundness.{SoundReading, SoundTie, SoundBracket, Sound}
-use Rattle.passes.specs.Writing.{with_reading, with_ties, with_bracket, recharged, weights, fresh, reset, rewritten}
+use Rattle.passes.specs.Writing.{with_reading, with_ties, with_bracket, weights, fresh, reset, rewritten}
 use Rattle.passes.specs.Rounds.{charge_in, charged, half_marked, narrowed}
 use Rattle.passes.specs.Copying.{copied}
 

@@ -1,5 +1,6 @@
 pub mod Writing
 pub mod Soundness
+pub mod Tables
 pub mod Rounds
 pub mod Pulls
 pub mod Copying

@@ -7,11 +7,11 @@ use Rattle.tile.specs.declared.bracket.Bracket.{Bracket}
 use Rattle.tile.specs.declared.cell.Cell.{Cell}
 use Rattle.tile.specs.declared.shape.Shape.{Shape}
 use Rattle.tile.specs.Halving.{half_below, half_above}
-use Rattle.tile.specs.Records.{stored_tie, stored_bracket}
+use Rattle.tile.specs.Records.{stored_tie, stored_bracket, recharged}
 use Rattle.tile.specs.Shapes.{cells}
 use Rattle.tile.specs.Tiles.{Tile, cell, survey, problem}
 use Rattle.flow.specs.Networks.{brackets}
-use Rattle.passes.specs.Writing.{with_bracket, recharged, rewritten}
+use Rattle.passes.specs.Writing.{with_bracket, rewritten}
 use Rattle.passes.specs.Soundness.{SoundTies}
 
 -- The charge of the cell u: 0 where it is settled; else its step at the middle of its bracket, plus the weight of each tie to a

@@ -1,10 +1,11 @@
 -- What is written into records.
-use Rattle.std.specs.Prelude.{ℕ, ◌++◌, map, drop, ℤ, pos}
+use Rattle.std.specs.Prelude.{ℕ, ◌++◌, map, drop, pos}
 use Rattle.std.specs.List.{range_with_len}
 use Rattle.tile.specs.declared.bracket.Bracket.{Bracket}
 use Rattle.tile.specs.declared.cell.Cell.{Cell}
 use Rattle.tile.specs.declared.side.Side.{Side}
 use Rattle.tile.specs.declared.side.Side.TheVariants.{Rightward, Downward}
+use Rattle.tile.specs.Records.{recharged}
 use Rattle.tile.specs.Halving.{from_to}
 use Rattle.tile.specs.Tiles.{Tile, blank}
 
@@ -22,11 +23,6 @@ with_ties w c =
 abbrev pub with_bracket : Bracket → Cell → Cell
 with_bracket b c =
     record { reading = c.reading; class = c.class; right = c.right; down = c.down; right_flow = c.right_flow; down_flow = c.down_flow; low = b.low; high = b.high; charge = c.charge; mark = c.mark; rank = c.rank }
-
--- a charge written, and flows, mark and rank at 0
-abbrev pub recharged : ℤ → Cell → Cell
-recharged z c =
-    record { reading = c.reading; class = c.class; right = c.right; down = c.down; right_flow = pos 0; down_flow = pos 0; low = c.low; high = c.high; charge = z; mark = 0; rank = 0 }
 
 -- the two weights of a cell, by their sides
 abbrev pub weights : ℕ → ℕ → Side → ℕ

@@ -7,7 +7,7 @@ ghost use Rattle.tile.specs.Shapes.{cells};
 ghost use Rattle.flow.specs.Networks.{weighted, brackets};
 ghost use Rattle.flow.specs.Points.{Cuttable};
 ghost use Rattle.passes.specs.Pulls.{pull, pull_ahead, pull_behind, pull_over};
-ghost use Rattle.passes.specs.Writing.{recharged};
+ghost use Rattle.tile.specs.Records.{recharged};
 ghost use Rattle.passes.specs.Rounds.{charge_in, charged, Chargeable};
 
 use price::PriceRule;

@@ -6,6 +6,7 @@ pub mod copying;
 pub mod examples;
 pub mod narrowing;
 pub mod soundness;
+mod table;
 pub mod writing;
 
 pub use charging::charge;

@@ -11,6 +11,7 @@ use Rattle.tile.specs.declared.side.Side.{Side}
 use Rattle.tile.specs.Records.{stored_flow}
 use Rattle.tile.specs.Tiles.{Tile, cell}
 use Rattle.theory.specs.Sums.{sum}
+use Rattle.theory.proofs.Sums.{sum_mono}
 use Rattle.flow.specs.Sides.{beside, has_beside, opposite, room_forth, room_back, room, remains, lack, total_lack, InDeficit, InSurplus, SameSurvey, Eased, Sent, add_flow, pushed}
 use Rattle.tile.specs.Ties.{offset}
 use Rattle.cut.specs.Ranks.{rank_of}
@@ -72,16 +73,13 @@ room_pushed t c Left u f l = room_added t c Rightward (u - 1) (neg_ℤ f) (u - 1
 room_pushed t c Up u f l = room_added t c Downward (u - c) (neg_ℤ f) (u - c) (omega arith) (inl refl)
 
 -- sums
-pub sum_mono : (n : ℕ) (f g : ℕ → ℕ) → ((u : ℕ) → f u ≤ g u) → sum n f ≤ sum n g
-sum_mono zero f g le = omega arith
-sum_mono (suc n) f g le = omega (arith, le n, sum_mono n f g le)
 
 pub sum_less : (n : ℕ) (f g : ℕ → ℕ) (k : ℕ) → ((u : ℕ) → f u ≤ g u) → k < n → f k < g k → sum n f < sum n g
 sum_less zero f g k le l s = absurd (omega arith)
 sum_less (suc n) f g k le l s =
     ⊎_elim
     (λ (e : k < n). omega (arith, le n, sum_less n f g k le e s))
-    (λ (e : n ≤ k). let q : k ≡ n = omega arith in let s' : f n < g n = subst (λ (x : ℕ). f x < g x) q s in omega (arith, sum_mono n f g le))
+    (λ (e : n ≤ k). let q : k ≡ n = omega arith in let s' : f n < g n = subst (λ (x : ℕ). f x < g x) q s in omega (arith, sum_mono n f g (λ u _. le u)))
     (cases_lt k n)
 
 pub relieved : (c : ℕ) (t t' : Tile) (k : ℕ) → Eased c t t' → k < length t → lack t' c k < lack t c k → Relieved c t t'
@@ -216,7 +214,7 @@ module _ (c : ℕ) (t t' : Tile) (v u : ℕ) (h g : Direction) (r : Bool) (sp : 
       (a x (subst (λ (k : ℕ). x < k) long lx) (omega arith))
 
 pub lack_eased : (c : ℕ) (t t' : Tile) → Eased c t t' → total_lack t' c ≤ total_lack t c
-lack_eased c t t' e = subst (λ (n : ℕ). sum n (lack t' c) ≤ sum (length t) (lack t c)) (sym e.still.long) (sum_mono (length t) (lack t' c) (lack t c) e.less)
+lack_eased c t t' e = subst (λ (n : ℕ). sum n (lack t' c) ≤ sum (length t) (lack t c)) (sym e.still.long) (sum_mono (length t) (lack t' c) (lack t c) (λ u _. e.less u))
 
 pub relieved_after : (c : ℕ) (t t' t'' : Tile) → Eased c t t' → Relieved c t' t'' → Relieved c t t''
 relieved_after c t t' t'' e r = record { eased = eased_trans c t t' t'' e r.eased; fewer = omega (arith, r.fewer, lack_eased c t t' e) }

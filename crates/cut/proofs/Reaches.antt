@@ -7,12 +7,9 @@ use Rattle.cut.specs.Ranks.{rank_of, mark_of, Marked}
 use Rattle.cut.specs.Searches.{Parent, Spread, Ranked}
 use Rattle.cut.specs.Climbs.{Settled}
 use Rattle.flow.proofs.Fields.{remains_level, level_still, still_trans}
-use Rattle.flow.proofs.Pushes.{room_there, there_in, sound_level}
+use Rattle.flow.proofs.Pushes.{sound_level}
+use Rattle.flow.proofs.Reaching.{reach_in}
 use Rattle.cut.proofs.Searches.{room_level}
-
-pub reach_in : (c : ℕ) (t : Tile) {u : ℕ} → Reach c t u → u < length t
-reach_in c t (starts l s) = l
-reach_in c t (goes {u} h r o e) = subst (λ (k : ℕ). k < length t) e (there_in (length t) c h u (reach_in c t r) (room_there t c h u o))
 
 pub reach_ranked : (c : ℕ) (t : Tile) → Ranked c t → {u : ℕ} → Reach c t u → 0 < rank_of t u
 reach_ranked c t k (starts {u} l s) = k.deficits u l s

@@ -1,10 +1,10 @@
 -- One more cell in a search, with entries of any kind.
 use Rattle.std.specs.Prelude.{⊤}
-use Rattle.std.proofs.Common.{◌≡◌, ℕ, ◌+◌, ◌-◌, ◌<◌, ◌≤◌, cond, int_lt, ◌⊎◌, List, [], ◌∷◌, ◌++◌, map, length, ℤ, pos, ◌<ℤ◌, Bool, true, false, Some, None, Option, Ok, Err, Result, get_or, below_more, refl, sym, ap, ◌∙◌, subst, inl, inr, ⊎_elim, arith}
+use Rattle.std.proofs.Common.{◌≡◌, IsTrue, ◌↔◌, ℕ, ◌+◌, ◌-◌, ◌<◌, ◌≤◌, cond, int_lt, ◌⊎◌, List, [], ◌∷◌, ◌++◌, map, length, ℤ, pos, ◌<ℤ◌, Bool, true, false, Some, None, Option, Ok, Err, Result, get_or, below_more, refl, sym, ap, ◌∙◌, subst, inl, inr, ⊎_elim, arith}
 use Rattle.std.specs.List.{AllByRecursion as All}
 use Rattle.std.proofs.lemmas.List.{length_push, length-map, map_push}
 use Rattle.std.proofs.ByRecursion.{All-push, All-weaker}
-use Rattle.std.proofs.lemmas.Bool.{cases_eq}
+use Rattle.std.proofs.lemmas.Bool.{cases_eq, false≢true}
 use Rattle.std.proofs.lemmas.Int.{ints}
 use Rattle.queue.proofs.Waits.{last_with_room, wanted_with_room, unwanted_same}
 use Rattle.queue.specs.Queue.{waits, capacity, Enqueued, EnqueuedIf, Dequeued}
@@ -15,7 +15,7 @@ use Rattle.flow.specs.declared.flows.Flows.{Flows}
 use Rattle.tile.specs.Tiles.{Tile}
 use Rattle.flow.specs.Sides.{beside, opposite, room, remains, SameFlows, InDeficit, InSurplus}
 use Rattle.cut.specs.Ranks.{rank_of, ranked_at}
-use Rattle.cut.specs.Searches.{Among, Searching, Fresh, Grows, load, spots, BackTo, Backed, AllInside, Looks, Visited, Visits, Goes, GoesOn, Started, Ranked}
+use Rattle.cut.specs.Searches.{Among, Searching, Fresh, Grows, load, spots, BackTo, Backed, AllInside, Looks, Visited, Visits, Goes, GoesIf, GoesOn, Started, Ranked}
 use Rattle.cut.specs.Climbs.{NoneInSurplus, Above}
 use Rattle.flow.specs.Lent.{SameRows}
 use Rattle.cut.specs.Lent.{Leveled}
@@ -23,7 +23,7 @@ use Rattle.cut.proofs.Directions.{ways, every_way}
 use Rattle.cut.proofs.Lent.{leveled_self, leveled_trans}
 use Rattle.flow.proofs.Tests.{less_true, less_false}
 use Rattle.flow.proofs.Fields.{level_self, remains_level}
-use Rattle.flow.proofs.Pushes.{room_there, back_across}
+use Rattle.flow.proofs.Pushes.{room_there, there_in, back_across}
 use Rattle.cut.proofs.Searches.{level_ranked, ranked_same, rank_here, rank_other, count_up, not_all, among_old, among_new, grows_ranked, grows_self, grows_trans, spread_grows, search_put, search_done, search_add, seen_more, begin_not}
 
 -- for entries of any kind, by the cell of an entry and the direction back
@@ -133,6 +133,14 @@ module _ {X : Type 0} (spot : X → ℕ) (came : X → Option Direction) where
         search = λ k. visited_put f.columns (spot e) h (came e) f.tile.now f'.tile.now r r' s v b k w' te' p se sf;
       }
 
+  not_fresh : (c : ℕ) (t : Tile) (u : ℕ) (h : Direction) → u < length t → pos 0 <ℤ room t c h u → (Fresh c t u h (beside c h u) → ⊥) → 0 < rank_of t (beside c h u)
+  not_fresh c t u h l o k =
+      let inside = there_in (length t) c h u l (room_there t c h u o) in
+      ⊎_elim
+      (λ (z : rank_of t (beside c h u) ≡ 0). absurd (k (record { at = refl; inside = inside; open' = o; none = z })))
+      (λ (z : rank_of t (beside c h u) ≡ 0 → ⊥). omega arith)
+      (cases_eq (rank_of t (beside c h u)) 0)
+
   -- a search has gone over the first n directions out of u
   pub record Gone (c u : ℕ) (from : Option Direction) (n : ℕ) (t t' : Tile) (r r' : Queue X) : Type 0 where
     pub looks : Looks spot came c u from t' r'
@@ -185,6 +193,39 @@ module _ {X : Type 0} (spot : X → ℕ) (came : X → Option Direction) where
         let w = rw g.level.rows.columns at v.search in
         gone_more f.columns (spot e) (came e) n f.tile.now f1.tile.now f2.tile.now r r1 r2 a v.rooms (w a.looks);
   }
+
+  -- a direction in which there was nowhere to go before the first was gone in
+  going_past : (e : X) (n : ℕ) (f f1 : Flows) (r r1 : Queue X) → spot e < length f.tile.now → Going e n f f1 r r1 → (Fresh f.columns f.tile.now (spot e) (get_or ways n Right) (beside f.columns (get_or ways n Right) (spot e)) → ⊥) → Going e (n + 1) f f1 r r1
+  going_past e n f f1 r r1 l g k =
+      let h = get_or ways n Right in
+      record {
+        level = g.level;
+        rooms = g.rooms;
+        inside = g.inside;
+        search = λ s.
+            let a = g.search s in
+            record {
+              looks = a.looks;
+              grows = a.grows;
+              done = below_more _ _ a.done (spread_grows f.columns f.tile.now f1.tile.now (spot e) a.grows h (λ o. not_fresh f.columns f.tile.now (spot e) h l o k));
+              load_same = a.load_same;
+              olds = a.olds;
+              news = a.news;
+            };
+      }
+
+  -- the same by a test that was made then
+  pub going_not : (e : X) (n u : ℕ) (f f1 : Flows) (r r1 : Queue X) (w : Bool) → u ≡ spot e → spot e < length f.tile.now → Going e n f f1 r r1 → IsTrue w ↔ Fresh f.columns f.tile.now u (get_or ways n Right) (beside f.columns (get_or ways n Right) u) → w ≡ false →
+      Going e (n + 1) f f1 r r1
+  going_not e n u f f1 r r1 w ue l g k z =
+      let h = get_or ways n Right in
+      going_past e n f f1 r r1 l g (λ a. false≢true (sym z ∙ k.1 (subst (λ (x : ℕ). Fresh f.columns f.tile.now x h (beside f.columns h x)) (sym ue) a)))
+
+  -- a direction that is gone in if the test says so
+  pub going_if : (e : X) (n u : ℕ) (f f1 f2 : Flows) (r r1 r2 : Queue X) (w : Bool) → u ≡ spot e → spot e < length f.tile.now → Going e n f f1 r r1 → IsTrue w ↔ Fresh f.columns f.tile.now u (get_or ways n Right) (beside f.columns (get_or ways n Right) u) →
+      GoesIf w spot came e (get_or ways n Right) f1 f2 r1 r2 → Going e (n + 1) f f2 r r2
+  going_if e n u f f1 f2 r r1 r2 true ue l g k v = going_more e n f f1 f2 r r1 r2 g v
+  going_if e n u f f1 f2 r r1 r2 false ue l g k v = rw (v.0, v.1) (going_not e n u f f1 r r1 false ue l g k refl)
 
   pub going_all : (e : X) (n : ℕ) (f f' : Flows) (r r' : Queue X) → 4 ≤ n → Going e n f f' r r' → GoesOn spot came e f f' r r'
   going_all e n f f' r r' l g = record { level = g.level; rooms = g.rooms; inside = g.inside; search = λ k. gone_all f.columns (spot e) (came e) n f.tile.now f'.tile.now r r' l (g.search k) }

@@ -11,6 +11,10 @@ use Rattle.cut.specs.Searches.{Grown, Ranked}
 abbrev pub RankedSurplus : ℕ → Tile → ℕ → Type 0
 RankedSurplus c t u = (0 < rank_of t u) × InSurplus t c u
 
+-- the cell in this direction is in surplus, and there is room to it
+abbrev pub Taker : ℕ → Tile → ℕ → Direction → Type 0
+Taker c t u h = InSurplus t c (beside c h u) × (pos 0 <ℤ room t c h u)
+
 -- no cell that has a rank is in surplus
 abbrev pub NoneInSurplus : ℕ → Tile → Type 0
 NoneInSurplus c t = (u : ℕ) → u < length t → 0 < rank_of t u → InSurplus t c u → ⊥

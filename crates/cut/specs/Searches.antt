@@ -1,6 +1,6 @@
 -- The breadth-first search from the deficit cells, which ranks the cells it reaches: deficit cells highest, and one less over
 -- each residual arc. What waits is a list of entries, each with a cell and perhaps the direction back to where it was reached from.
-use Rattle.std.specs.Prelude.{◌≡◌, ℕ, ◌+◌, ◌-◌, ◌<◌, ◌≤◌, ◌⊎◌, List, [], ◌∷◌, map, length, pos, ◌<ℤ◌, Some, Option, MatchOption}
+use Rattle.std.specs.Prelude.{◌≡◌, ℕ, ◌+◌, ◌-◌, ◌<◌, ◌≤◌, ◌⊎◌, List, [], ◌∷◌, map, length, pos, ◌<ℤ◌, Bool, true, false, Some, Option, MatchOption}
 use Rattle.std.specs.List.{AllByRecursion}
 use Rattle.queue.specs.declared.Queue.{Queue}
 use Rattle.queue.specs.Queue.{waits, capacity}
@@ -119,6 +119,11 @@ pub record Goes {X : Type 0} (spot : X → ℕ) (came : X → Option Direction) 
   pub rooms : capacity q' ≡ capacity q
   pub inside : AllInside spot f.tile.now q → AllInside spot f.tile.now q'
   pub search : Looks spot came f.columns (spot e) (came e) f.tile.now q → Visited spot came f.columns (spot e) h f.tile.now f'.tile.now q q'
+
+-- the same if that is wanted; else nothing changes
+abbrev pub GoesIf : {X : Type 0} → Bool → (X → ℕ) → (X → Option Direction) → X → Direction → Flows → Flows → Queue X → Queue X → Type 0
+GoesIf true spot came e h f f' q q' = Goes spot came e h f f' q q'
+GoesIf false spot came e h f f' q q' = (f' ≡ f) × (q' ≡ q)
 
 -- and over all directions
 pub record GoesOn {X : Type 0} (spot : X → ℕ) (came : X → Option Direction) (e : X) (f f' : Flows) (q q' : Queue X) : Type 0 where

@@ -9,8 +9,9 @@ ghost use Rattle.cut.specs.Climbs.{Above, Relieved, Sought, Swept};
 
 use crate::climb::{carry, climb, higher, is_ranked_surplus};
 use crate::entry::Step;
-use crate::ranks::{marked_direction, put_mark, put_rank};
+use crate::ranks::put_rank;
 use crate::search::{start_search, visit_all};
+use crate::ways::{before, push_on, put_back, put_onward};
 use flow::Flows;
 use queue::Queue;
 
@@ -22,7 +23,7 @@ fn seek(flows: &mut Flows, queue: &mut Queue<Step>) -> Option<Step>
     ensures inside { AllInside (λ (s : Record). s.cell) flows.new.tile.now queue.new }
 {
     while let Some(step) = queue.dequeue() {
-        if flows.remainder(step.cell as usize) > 0 {
+        if flows.in_surplus(step.cell as usize) {
             return Some(step);
         }
         visit_all(flows, queue, step);
@@ -46,13 +47,12 @@ fn push_path(flows: &mut Flows, u: usize)
 
 // How many dead ends may be met before the next push; then the search is given up, and a new one starts.
 fn patience(flows: &Flows) -> usize
-    ensures { result ≡ length flows.now.tile.now / 16 + 1 }
+    ensures { result ≡ length flows.now.tile.now / 24 + 1 }
 {
-    flows.tile.len() / 16 + 1
+    flows.tile.len() / 24 + 1
 }
 
-// Goes up from a cell over ever higher ranks, and marks each cell on the way with the direction back. Answers at which cell the way
-// ends, unless it comes to a deficit cell.
+// Goes up from a cell over ever higher ranks, and marks the way. Answers at which cell it ends, unless it comes to a deficit cell.
 fn go_up(flows: &mut Flows, from: usize) -> Option<usize>
     requires { from < length flows.old.tile.now }
     ensures level { Leveled flows.old flows.new }
@@ -60,21 +60,14 @@ fn go_up(flows: &mut Flows, from: usize) -> Option<usize>
 {
     let mut v = from;
     while let Some((u, toward)) = higher(flows, v) {
+        put_onward(flows, v, toward);
         if flows.in_deficit(u) {
             return None;
         }
-        put_mark(flows, u, toward.opposite());
+        put_back(flows, u, toward.opposite());
         v = u;
     }
     Some(v)
-}
-
-// The cell from which a way came to u.
-fn before(flows: &Flows, u: usize) -> Option<usize>
-    requires { u < length flows.now.tile.now }
-    ensures { IfSome result (λ v. v < length flows.now.tile.now) }
-{
-    flows.beside(u, marked_direction(flows.tile[u].mark))
 }
 
 // Looks for a way up from u that leads to a deficit cell: a cell at which a way ends loses its rank, and the way goes on from the cell
@@ -109,7 +102,7 @@ fn try_path(flows: &mut Flows, u: usize, most: usize) -> usize
     if left == 0 || flows.tile[u].rank == 0 {
         return left;
     }
-    push_path(flows, u);
+    push_on(flows, u);
     patience(flows)
 }
 

@@ -12,7 +12,7 @@ pub(crate) fn is_ranked_surplus(flows: &Flows, u: usize) -> bool
     requires { u < length flows.now.tile.now }
     ensures { IsTrue result ↔ RankedSurplus flows.now.columns flows.now.tile.now u }
 {
-    flows.tile[u].rank > 0 && flows.remainder(u) > 0
+    (flows.tile[u].rank > 0) & flows.in_surplus(u)
 }
 
 // The first surplus cell that has a rank.

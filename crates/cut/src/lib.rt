@@ -9,6 +9,7 @@ mod pairing;
 mod push_relabel;
 mod ranks;
 mod search;
+mod ways;
 
 pub use entry::Step;
 pub use makers::{AugmentingPaths, PushRelabel};

@@ -64,7 +64,7 @@ fn draw(flows: &mut Flows, queue: &mut Queue<u16>, v: usize, toward: Direction)
     };
     let was = flows.remainder(u);
     let _ = flows.send(u, toward.opposite(), MOST);
-    if was <= 0 && flows.remainder(u) > 0 {
+    if was <= 0 && flows.in_surplus(u) {
         let _ = queue.enqueue(u as u16);
     }
 }
@@ -140,7 +140,7 @@ fn drain(flows: &mut Flows, work: &mut [u16])
     let n = flows.tile.len();
     let mut queue = Queue::new(work);
     collect(flows, &mut queue);
-    let mut left = n / 8 + 1;
+    let mut left = n / 16 + 1;
     for _ in 0..n * 64 {
         if left == 0 {
             return;

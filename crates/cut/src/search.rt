@@ -1,14 +1,24 @@
 // The search that ranks every cell which residual arcs reach from a deficit cell.
-ghost use Rattle.std.specs.Prelude.{◌≡◌, ℕ, ◌<◌, ◌≤◌, if◌then◌else◌, [], length};
+ghost use Rattle.std.specs.Prelude.{◌≡◌, ℕ, ◌<◌, ◌≤◌, ◌↔◌, IsTrue, if◌then◌else◌, [], length};
 ghost use Rattle.queue.specs.Queue.{waits, capacity};
 ghost use Rattle.cut.specs.Ranks.{rank_of};
 ghost use Rattle.cut.specs.Lent.{Leveled};
-ghost use Rattle.cut.specs.Searches.{FoundFresh, Goes, GoesOn, Started, Ranked};
+ghost use Rattle.flow.specs.Sides.{beside};
+ghost use Rattle.cut.specs.Searches.{Fresh, FoundFresh, Goes, GoesIf, GoesOn, Started, Ranked};
 
 use crate::entry::Entry;
 use crate::ranks::{clear_ranks, put_rank};
 use flow::{Direction, Flows};
 use queue::Queue;
+
+// Does a residual arc lead in a direction to a cell without a rank? Written without a branch, as that comes out at random.
+fn is_fresh(flows: &Flows, u: usize, toward: Direction) -> bool
+    requires { u < length flows.now.tile.now }
+    ensures { IsTrue result ↔ Fresh flows.now.columns flows.now.tile.now u toward (beside flows.now.columns toward u) }
+{
+    let v = flows.beside(u, toward).unwrap_or(u);
+    (flows.tile[v].rank == 0) & flows.is_residual(u, toward)
+}
 
 // The cell without a rank that a residual arc leads to in a direction.
 fn fresh(flows: &Flows, u: usize, toward: Direction) -> Option<usize>
@@ -36,16 +46,39 @@ fn visit<E: Entry>(flows: &mut Flows, queue: &mut Queue<E>, entry: E, toward: Di
     let _ = queue.enqueue(E::reached(v as u16, toward.opposite()));
 }
 
-// Goes on from the entry's cell in all directions but the one back.
+// The same, if it is wanted.
+fn visit_if<E: Entry>(
+    flows: &mut Flows,
+    queue: &mut Queue<E>,
+    entry: E,
+    toward: Direction,
+    wanted: bool,
+)
+    requires { E.Entry.spot entry < length flows.old.tile.now }
+    ensures { GoesIf wanted E.Entry.spot E.Entry.came entry toward flows.old flows.new queue.old queue.new }
+{
+    if wanted {
+        visit(flows, queue, entry, toward);
+    }
+}
+
+// Goes on from the entry's cell in all directions but the one back. Mostly there is nowhere to go, so all four are looked at first.
 pub(crate) fn visit_all<E: Entry>(flows: &mut Flows, queue: &mut Queue<E>, entry: E)
     requires { E.Entry.spot entry < length flows.old.tile.now }
     ensures { GoesOn E.Entry.spot E.Entry.came entry flows.old flows.new queue.old queue.new }
 {
-    // A loop over `Direction::ALL` makes whole cuts a fifth slower.
-    visit(flows, queue, entry, Direction::Right);
-    visit(flows, queue, entry, Direction::Down);
-    visit(flows, queue, entry, Direction::Left);
-    visit(flows, queue, entry, Direction::Up);
+    let u = entry.cell() as usize;
+    let right = is_fresh(flows, u, Direction::Right);
+    let down = is_fresh(flows, u, Direction::Down);
+    let left = is_fresh(flows, u, Direction::Left);
+    let up = is_fresh(flows, u, Direction::Up);
+    if right | down | left | up {
+        // A loop over `Direction::ALL` makes whole cuts a fifth slower.
+        visit_if(flows, queue, entry, Direction::Right, right);
+        visit_if(flows, queue, entry, Direction::Down, down);
+        visit_if(flows, queue, entry, Direction::Left, left);
+        visit_if(flows, queue, entry, Direction::Up, up);
+    }
 }
 
 // The rank of a cell from which a search starts, and of one not yet reached.

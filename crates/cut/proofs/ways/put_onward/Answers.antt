@@ -1,6 +1,6 @@
 use Rattle.flow.proofs.Pushes.{sound_level}
 use Rattle.cut.proofs.Searches.{level_marked}
-use Rattle.cut.proofs.ranks.put_mark.Goals as goal
+use Rattle.cut.proofs.ways.put_onward.Goals as goal
 
 pub invariant_of-flows : goal.invariant_of-flows
 invariant_of-flows c = record { sound = sound_level _ _ _ (level_marked _ _ _) c.args.flows.now.sound }

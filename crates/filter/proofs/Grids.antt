@@ -1,11 +1,11 @@
 -- The problem that a survey poses under a lawful rule: its lowest cheapest grid exists, and raised readings lower none of it.
-use Rattle.std.proofs.Common.{◌≡◌, ℕ, zero, suc, ◌+◌, ◌-◌, ◌<◌, ◌≤◌, ◌&&◌, leb, ℤ, pos, ◌-ℤ◌, ◌≤ℤ◌, sym, ap, ◌∙◌, subst, ap₂, add-one, arith}
+use Rattle.std.proofs.Common.{◌≡◌, ℕ, zero, suc, ◌+◌, ◌-◌, ◌<◌, ◌≤◌, ℤ, ◌≤ℤ◌, sym, ap, subst, arith}
 use borrow.Author.Differences.{ints}
 use Rattle.std.specs.List.{ContainsAt as Has}
-use Rattle.std.proofs.lemmas.Bool.{cond-true, le-leb, and_from}
 use Rattle.limits.specs.Limits.{most_class}
-use Rattle.price.specs.Rules.{Rule, Lawful, known, priced}
+use Rattle.price.specs.Rules.{Rule, Lawful}
 use Rattle.price.specs.Rules.{step as rule_step}
+use Rattle.price.proofs.Answered.{knows, step_priced}
 use Rattle.theory.specs.Grids.{Heights, LowestCheapestGrid, step, StepsNeverFall}
 use Rattle.theory.specs.Levels.{priced as priced_over}
 use Rattle.theory.proofs.Levels.{lowest_exists, lower_steps}
@@ -15,19 +15,8 @@ use Rattle.tile.specs.Shapes.{cells}
 use Rattle.tile.specs.Ties.{Tie, ties, graph}
 use Rattle.tile.specs.Tiles.{Survey, problem}
 use Rattle.tile.proofs.Joins.{ties_join_cells}
-use Rattle.passes.specs.Soundness.{SoundReading, SoundTies}
+use Rattle.passes.specs.Soundness.{SoundSurvey}
 use Rattle.filter.specs.Laws.{Raised}
-
--- a survey within its ranges
-pub record SoundSurvey (s : Shape) (y : Survey) : Type 0 where
-  pub readings : (u : ℕ) → u < cells s → SoundReading s.top (y.reading u) (y.class u)
-  pub ties : (u : ℕ) → u < cells s → SoundTies s u (y.tie u)
-
--- within its ranges a rule answers its price
-pub priced_is : (r : Rule) (v q k : ℕ) → v ≤ r.greatest → q ≤ most_class → k ≤ r.greatest → priced r v q k ≡ r.price v q k
-priced_is r v q k lv lq lk =
-    cond-true (known r.greatest v q && leb k r.greatest) (r.price v q k) 0
-    (and_from (known r.greatest v q) (leb k r.greatest) (and_from (leb v r.greatest) (leb q most_class) (le-leb v r.greatest lv) (le-leb q most_class lq)) (le-leb k r.greatest lk))
 
 le_by : (x x' y y' : ℤ) → x ≡ x' → y ≡ y' → x' ≤ℤ y' → x ≤ℤ y
 le_by x x' y y' ex ey h = subst (λ (z : ℤ). z ≤ℤ y) (sym ex) (subst (λ (z : ℤ). x' ≤ℤ z) (sym ey) h)
@@ -56,19 +45,14 @@ module _ (rule : Rule) (law : Lawful rule) (s : Shape) (reach : s.top ≤ rule.g
   -- below top, the steps of the problem are those of the rule
   pub step_is : (y : Survey) → SoundSurvey s y → (u m : ℕ) → u < cells s → m < s.top → step (problem rule s y) m u ≡ rule_step rule (y.reading u) (y.class u) m
   step_is y sound u m l lm =
-      let v : ℕ = y.reading u in
-      let q : ℕ = y.class u in
       let k = sound.readings u l in
-      let a = priced_is rule v q (suc m) (omega (arith, k.reading)) k.class (omega arith) in
-      let b = priced_is rule v q m (omega (arith, k.reading)) k.class (omega arith) in
-      ap₂ (λ (i j : ℕ). pos i -ℤ pos j) (a ∙ ap (rule.price v q) (sym (add-one m))) b
+      step_priced rule (y.reading u) (y.class u) m (knows rule (y.reading u) (y.class u) (omega (arith, k.reading)) k.class) (omega arith)
 
   pub never_fall : (y : Survey) → SoundSurvey s y → StepsNeverFall (problem rule s y)
   never_fall y sound u m l lm =
       let k = sound.readings u l in
       le_by _ _ _ _ (step_is y sound u m l (omega arith)) (step_is y sound u (suc m) l (omega arith))
-      (subst (λ (n : ℕ). rule_step rule (y.reading u) (y.class u) m ≤ℤ rule_step rule (y.reading u) (y.class u) n) (add-one m)
-      (law.rising_in_height (y.reading u) (y.class u) m (omega (arith, k.reading)) k.class (omega arith)))
+      (law.rising_in_height (y.reading u) (y.class u) m (omega (arith, k.reading)) k.class (omega arith))
 
   -- there is a lowest cheapest grid
   pub exists : (y : Survey) → SoundSurvey s y → (g : Heights) × LowestCheapestGrid (problem rule s y) g

@@ -11,13 +11,13 @@ use Rattle.tile.specs.declared.shape.Shape.{Shape}
 use Rattle.tile.specs.declared.side.Side.{Side}
 use Rattle.tile.specs.declared.side.Side.TheVariants.{Rightward, Downward}
 use Rattle.tile.specs.Halving.{from_to, half_toward, halving, RoundsOver}
-use Rattle.tile.specs.Records.{stored_tie, stored_bracket}
+use Rattle.tile.specs.Records.{stored_tie, stored_bracket, recharged}
 use Rattle.tile.specs.Shapes.{cells}
 use Rattle.tile.specs.Tiles.{Tile, cell, blank, problem}
 use Rattle.flow.specs.Points.{FourPoints}
 use Rattle.flow.specs.Sides.{uncut}
-use Rattle.passes.specs.Writing.{with_reading, with_ties, with_bracket, recharged, fresh, reset, rewritten}
-use Rattle.passes.specs.Soundness.{SoundReading, SoundTie, SoundTies}
+use Rattle.passes.specs.Writing.{with_reading, with_ties, with_bracket, fresh, reset, rewritten}
+use Rattle.passes.specs.Soundness.{SoundReading, SoundTie, SoundTies, SoundSurvey}
 use Rattle.passes.specs.Rounds.{charge_in, charged, half_marked, narrowed}
 use Rattle.passes.proofs.Rewrites.{cell_rewritten, rewritten_length}
 use Rattle.filter.specs.declared.states.Draft.{Draft}
@@ -25,7 +25,7 @@ use Rattle.filter.specs.declared.states.Rounding.{Rounding}
 use Rattle.filter.specs.declared.states.Level.{Level}
 use Rattle.filter.specs.Runs.{Accepted, put_at, tied_at, begun, rounded, finished, reopened, History, surveyed, State, draft, rounding, level, shape_of, done_of}
 use Rattle.filter.specs.Laws.{Recorded}
-use Rattle.filter.proofs.Grids.{SoundSurvey, exists}
+use Rattle.filter.proofs.Grids.{exists}
 use Rattle.filter.proofs.Narrowing.{Halved, cut_kept, narrowed_kept, narrows}
 
 -- The records hold the survey of the history, and every bracket is the halving, for the rounds done, that holds the height of the

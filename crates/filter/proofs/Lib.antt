@@ -12,3 +12,4 @@ pub mod Resurveyed
 pub mod Staying
 pub mod Numbers
 pub mod ByNumbers
+pub mod Writes

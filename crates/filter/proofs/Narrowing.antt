@@ -16,7 +16,7 @@ use Rattle.tile.specs.declared.cell.Cell.{Cell}
 use Rattle.tile.specs.declared.shape.Shape.{Shape}
 use Rattle.tile.specs.declared.side.Side.{Side}
 use Rattle.tile.specs.Halving.{half_below, half_above, half_toward, halving, Disjoint, Holds}
-use Rattle.tile.specs.Records.{stored_bracket}
+use Rattle.tile.specs.Records.{stored_bracket, recharged}
 use Rattle.tile.specs.Shapes.{cells}
 use Rattle.tile.specs.Ties.{Tie, ties, graph}
 use Rattle.tile.specs.Tiles.{Tile, Survey, cell, survey, problem}
@@ -27,12 +27,13 @@ use Rattle.flow.specs.Points.{FourPoints}
 use Rattle.flow.specs.Sides.{uncut}
 use Rattle.flow.proofs.Certifies.{cut_marks}
 use Rattle.flow.proofs.LiveTies.{live_tie}
-use Rattle.passes.specs.Writing.{recharged, with_bracket}
+use Rattle.passes.specs.Soundness.{SoundSurvey}
+use Rattle.passes.specs.Writing.{with_bracket}
 use Rattle.passes.specs.Rounds.{charge_in, charged, half_marked, narrowed, Chargeable, Narrowable}
 use Rattle.passes.proofs.Charges.{Alike, alike, surveys_alike, brackets_alike}
 use Rattle.passes.proofs.Rewrites.{rewritten_length, cell_rewritten, cell_past}
 use Rattle.filter.specs.Laws.{Recorded}
-use Rattle.filter.proofs.Grids.{SoundSurvey, never_fall}
+use Rattle.filter.proofs.Grids.{never_fall}
 
 -- ---- what charging and narrowing keep
 

@@ -11,12 +11,12 @@ use Rattle.tile.specs.declared.cell.Cell.{Cell}
 use Rattle.tile.specs.declared.shape.Shape.{Shape}
 use Rattle.tile.specs.Halving.{RoundLeft}
 use Rattle.tile.specs.Shapes.{cells}
-use Rattle.tile.specs.Records.{stored_tie}
+use Rattle.tile.specs.Records.{stored_tie, recharged}
 use Rattle.tile.specs.Tiles.{Tile, cell}
 use Rattle.flow.specs.Networks.{network, marks}
 use Rattle.flow.specs.Points.{FourPoints}
 use Rattle.flow.specs.Sides.{uncut}
-use Rattle.passes.specs.Writing.{with_bracket, recharged}
+use Rattle.passes.specs.Writing.{with_bracket}
 use Rattle.passes.specs.Rounds.{charge_in, charged, half_marked, Chargeable}
 use Rattle.passes.specs.Soundness.{Sound}
 use Rattle.passes.proofs.Rewrites.{rewritten_length, cell_past}

@@ -29,11 +29,6 @@ sound_slice law rule lawful s h x t run u l =
 
 -- ---- lending
 
--- what is lent to a call that writes nothing
-pub lent_again : {n : ℕ} {r t t' r' : Tile} → Lent n r t t' r' → Lent n r t t r
-lent_again (Lent.all le) = Lent.all le
-lent_again (Lent.part front back lt) = Lent.part front back lt
-
 -- a slice with enough records begins with the run's
 pub lent_whole : {n : ℕ} {r t t' r' : Tile} → n ≤ length t → Lent n r t t' r' → (r ≡ take n t) × (r' ≡ take n t')
 lent_whole le (Lent.all _) = (refl, refl)

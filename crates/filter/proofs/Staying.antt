@@ -14,7 +14,7 @@ use Rattle.tile.specs.declared.bracket.Bracket.{Bracket}
 use Rattle.tile.specs.declared.cell.Cell.{Cell}
 use Rattle.tile.specs.declared.shape.Shape.{Shape}
 use Rattle.tile.specs.Halving.{half_below, half_above, halving, Holds}
-use Rattle.tile.specs.Records.{stored_tie, stored_bracket}
+use Rattle.tile.specs.Records.{stored_tie, stored_bracket, recharged}
 use Rattle.tile.specs.Shapes.{cells}
 use Rattle.tile.specs.Ties.{Tie, neighbour}
 use Rattle.tile.specs.Tiles.{Tile, cell}
@@ -23,7 +23,7 @@ use Rattle.flow.specs.Networks.{brackets, charges, flow_on, network}
 use Rattle.flow.specs.Points.{FourPoints}
 use Rattle.flow.specs.Sides.{uncut}
 use Rattle.flow.proofs.LiveTies.{live_tie}
-use Rattle.passes.specs.Writing.{with_bracket, recharged}
+use Rattle.passes.specs.Writing.{with_bracket}
 use Rattle.passes.specs.Rounds.{charged, half_marked, narrowed}
 use Rattle.passes.specs.Soundness.{SoundTie, SoundBracket, Sound}
 use Rattle.passes.proofs.Rewrites.{cell_rewritten}

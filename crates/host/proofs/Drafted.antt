@@ -12,7 +12,7 @@ use Rattle.filter.specs.declared.states.Rounding.{Rounding}
 use Rattle.filter.specs.Calls.{StartDoes, PutDoes, TieDoes, BeginDoes}
 use Rattle.filter.specs.Checks.{place}
 use Rattle.filter.specs.Resuming.{ResumesItself}
-use Rattle.filter.specs.Runs.{draft, rounding, put_at, tied_at, begun, Begins, GoesOn}
+use Rattle.filter.specs.Runs.{Accepted, draft, rounding, put_at, tied_at, begun, Begins, GoesOn}
 use Rattle.host.specs.declared.numbers.DraftNumbers.{DraftNumbers}
 use Rattle.host.specs.Numbers.{draft_numbers, rounding_numbers, of_draft, of_rounding}
 use Rattle.host.specs.Runs.{RunsGoOn}
@@ -20,57 +20,45 @@ use Rattle.host.specs.Telling.{why_of, plain, relayed}
 use Rattle.host.specs.DraftCalls.{place_in, StartAnswers, PutAnswers, TieAnswers, BeginAnswers}
 use Rattle.host.proofs.Taken.{Took, took_numbers, took_on, only_draft}
 use Rattle.host.proofs.GoingOn.{Returned, given_back, accepted, goes_on}
+use Rattle.filter.proofs.Writes.{Wrote, put_wrote, tie_wrote}
+use Rattle.tile.specs.declared.cell.Cell.{Cell}
 
 -- the draft d was taken in by the numbers n
-pub record DraftIs (n : DraftNumbers) (d : Draft) : Type 0 where
-  pub took : Took (Ranged most_rows n.rows n.columns n.top) (λ x. draft_numbers x ≡ n) d
-  pub itself : ResumesItself draft n.rows n.columns n.top 0 (Ok d)
+abbrev pub DraftIs : DraftNumbers → Draft → Type 0
+DraftIs n d = record { does : Took (Ranged most_rows n.rows n.columns n.top) (λ x. draft_numbers x ≡ n) d; itself : ResumesItself draft n.rows n.columns n.top 0 (Ok d) }
 
--- ---- put
+-- ---- put and tie
 
-put_returned : (d : Draft) (t : Tile) (row column v q : ℕ) (own : Result Draft (Refused Draft)) (t' : Tile) → PutDoes d t row column v q own t' → Returned d own
-put_returned d t row column v q own t' w =
-    let no = λ (e : Refusal) (z : (own ≡ Err (record { state = d; why = e })) × (t' ≡ t)). given_back d own e z.0 in
-    either no (λ _. either no (λ _. either no (λ _. either no (λ _ z. accepted d own d z.0)))) w
+wrote_returned : {d : Draft} {t : Tile} {row column : ℕ} {c : Cell} {own : Result Draft (Refused Draft)} {t' : Tile} → Wrote d t row column c own t' → Returned d own
+wrote_returned {d} {own = own} (Wrote.refused e z) = given_back d own e z.0
+wrote_returned {d} {own = own} (Wrote.accepted _ a _) = accepted d own d a
 
-put_same : (d : Draft) (t : Tile) (row column v q : ℕ) (x : Draft) (t' : Tile) → PutDoes d t row column v q (Ok x) t' → x ≡ d
-put_same d t row column v q x t' w =
-    let no = λ (e : Refusal) (z : (◌≡◌ {A = Result Draft (Refused Draft)} (Ok x) (Err (record { state = d; why = e }))) × (t' ≡ t)). absurd (cc z.0) in
-    either no (λ _. either no (λ _. either no (λ _. either no (λ _ z. cc z.0)))) w
+wrote_same : {d : Draft} {t : Tile} {row column : ℕ} {c : Cell} {x : Draft} {t' : Tile} → Wrote d t row column c (Ok x) t' → x ≡ d
+wrote_same (Wrote.refused e z) = absurd (cc z.0)
+wrote_same (Wrote.accepted _ a _) = cc a
+
+-- a call that writes the cell goes on with the runs of the draft, which keeps its numbers
+wrote_on : (n : DraftNumbers) (d : Draft) (t : Tile) (row column : ℕ) (c : Cell) (a : ℕ → Accepted) (own : Result Draft (Refused Draft)) (t' : Tile) → DraftIs n d → Wrote d t row column c own t' →
+    GoesOn (draft d) t draft draft (a (place d.shape row column)) own t' → RunsGoOn {M = Unit {0}} (of_draft n) t (a (place_in n row column)) (λ _. of_draft n) (relayed why_of (λ _. tt) own) t'
+wrote_on n d t row column c a own t' is w go =
+    let same = took_numbers (λ x. draft_numbers x ≡ n) d is.does in
+    let told = λ (x : Draft) (p : own ≡ Ok x). ap (λ z. of_draft (draft_numbers z)) (wrote_same (subst (λ z. Wrote d t row column c z t') p w)) ∙ ap of_draft same in
+    subst (λ (m : DraftNumbers). RunsGoOn {M = Unit {0}} (of_draft n) t (a (place_in m row column)) (λ _. of_draft n) (relayed why_of (λ _. tt) own) t') same
+    (λ rule. goes_on draft draft (λ _. tt) (λ _. of_draft n) _ (of_draft n) d t t' rule own (only_draft n d is.itself) told (wrote_returned w) (go rule))
 
 pub put_met : (n : DraftNumbers) (d : Draft) (t : Tile) (row column v q : ℕ) (own : Result Draft (Refused Draft)) (t' : Tile) → DraftIs n d → PutDoes d t row column v q own t' →
     GoesOn (draft d) t draft draft (put_at (place d.shape row column) v q) own t' → PutAnswers n t row column v q (relayed why_of (λ _. tt) own) t'
-put_met n d t row column v q own t' is w go =
-    let same = took_numbers (λ x. draft_numbers x ≡ n) d is.took in
-    let told = λ (x : Draft) (p : own ≡ Ok x). ap (λ z. of_draft (draft_numbers z)) (put_same d t row column v q x t' (subst (λ z. PutDoes d t row column v q z t') p w)) ∙ ap of_draft same in
-    record {
-      does = took_on _ _ d is.took (record { own = own; does = w; answers = refl });
-      goes_on = subst (λ (m : DraftNumbers). RunsGoOn (of_draft n) t (put_at (place_in m row column) v q) (λ _. of_draft n) (relayed why_of (λ _. tt) own) t') same
-          (λ rule. goes_on draft draft (λ _. tt) (λ _. of_draft n) _ (of_draft n) d t t' rule own (only_draft n d is.itself) told (put_returned d t row column v q own t' w) (go rule));
-    }
-
--- ---- tie
-
-tie_returned : (d : Draft) (t : Tile) (row column : ℕ) (k : Side → ℕ) (own : Result Draft (Refused Draft)) (t' : Tile) → TieDoes d t row column k own t' → Returned d own
-tie_returned d t row column k own t' w =
-    let no = λ (e : Refusal) (z : (own ≡ Err (record { state = d; why = e })) × (t' ≡ t)). given_back d own e z.0 in
-    either no (λ _. either no (λ _. either no (λ _. either no (λ _ z. accepted d own d z.0)))) w
-
-tie_same : (d : Draft) (t : Tile) (row column : ℕ) (k : Side → ℕ) (x : Draft) (t' : Tile) → TieDoes d t row column k (Ok x) t' → x ≡ d
-tie_same d t row column k x t' w =
-    let no = λ (e : Refusal) (z : (◌≡◌ {A = Result Draft (Refused Draft)} (Ok x) (Err (record { state = d; why = e }))) × (t' ≡ t)). absurd (cc z.0) in
-    either no (λ _. either no (λ _. either no (λ _. either no (λ _ z. cc z.0)))) w
+put_met n d t row column v q own t' is w go = record {
+  does = took_on _ _ d is.does (record { own = own; does = w; answers = refl });
+  goes_on = wrote_on n d t row column _ (λ u. put_at u v q) own t' is (put_wrote d t row column v q own t' w) go;
+}
 
 pub tie_met : (n : DraftNumbers) (d : Draft) (t : Tile) (row column : ℕ) (k : Side → ℕ) (own : Result Draft (Refused Draft)) (t' : Tile) → DraftIs n d → TieDoes d t row column k own t' →
     GoesOn (draft d) t draft draft (tied_at (place d.shape row column) k) own t' → TieAnswers n t row column k (relayed why_of (λ _. tt) own) t'
-tie_met n d t row column k own t' is w go =
-    let same = took_numbers (λ x. draft_numbers x ≡ n) d is.took in
-    let told = λ (x : Draft) (p : own ≡ Ok x). ap (λ z. of_draft (draft_numbers z)) (tie_same d t row column k x t' (subst (λ z. TieDoes d t row column k z t') p w)) ∙ ap of_draft same in
-    record {
-      does = took_on _ _ d is.took (record { own = own; does = w; answers = refl });
-      goes_on = subst (λ (m : DraftNumbers). RunsGoOn (of_draft n) t (tied_at (place_in m row column) k) (λ _. of_draft n) (relayed why_of (λ _. tt) own) t') same
-          (λ rule. goes_on draft draft (λ _. tt) (λ _. of_draft n) _ (of_draft n) d t t' rule own (only_draft n d is.itself) told (tie_returned d t row column k own t' w) (go rule));
-    }
+tie_met n d t row column k own t' is w go = record {
+  does = took_on _ _ d is.does (record { own = own; does = w; answers = refl });
+  goes_on = wrote_on n d t row column _ (λ u. tied_at u k) own t' is (tie_wrote d t row column k own t' w) go;
+}
 
 -- ---- begin
 
@@ -80,14 +68,14 @@ begin_returned d t own w = let no = λ (e : Refusal) (z : own ≡ Err (record { 
 pub begin_met : (n : DraftNumbers) (d : Draft) (t : Tile) (own : Result Rounding (Refused Draft)) → DraftIs n d → BeginDoes d t own → GoesOn (draft d) t draft rounding begun own t →
     BeginAnswers n t (relayed why_of rounding_numbers own)
 begin_met n d t own is w go = record {
-  does = took_on _ _ d is.took (record { own = own; does = w; answers = refl });
+  does = took_on _ _ d is.does (record { own = own; does = w; answers = refl });
   goes_on = λ rule. goes_on draft rounding rounding_numbers of_rounding begun (of_draft n) d t t rule own (only_draft n d is.itself) (λ x p. refl) (begin_returned d t own w) (go rule);
 }
 
 -- the numbers of the rounds that were begun
 pub begun_numbers : (n : DraftNumbers) (d : Draft) (t : Tile) (x : Rounding) → DraftIs n d → BeginDoes d t (Ok x) → rounding_numbers x ≡ record { rows = n.rows; columns = n.columns; top = n.top; done = 0 }
 begun_numbers n d t x is w =
-    let same = took_numbers (λ x. draft_numbers x ≡ n) d is.took in
+    let same = took_numbers (λ x. draft_numbers x ≡ n) d is.does in
     let G : Type 0 = rounding_numbers x ≡ record { rows = n.rows; columns = n.columns; top = n.top; done = 0 } in
     let no = λ (e : Refusal) (z : ◌≡◌ {A = Result Rounding (Refused Draft)} (Ok x) (Err (record { state = d; why = e }))). (let bad : G = absurd (cc z) in bad) in
     either no (λ _. either no (λ _ z.

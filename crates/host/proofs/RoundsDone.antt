@@ -23,13 +23,11 @@ use Rattle.host.proofs.Taken.{Took, took_numbers, took_on, only_rounding, only_l
 use Rattle.host.proofs.GoingOn.{Returned, given_back, accepted, goes_on}
 
 -- the state x was taken in by the numbers n
-pub record RoundingIs (n : RoundingNumbers) (x : Rounding) : Type 0 where
-  pub took : Took (RoundingRanged n.rows n.columns n.top n.done) (λ y. rounding_numbers y ≡ n) x
-  pub itself : ResumesItself rounding n.rows n.columns n.top n.done (Ok x)
+abbrev pub RoundingIs : RoundingNumbers → Rounding → Type 0
+RoundingIs n x = record { does : Took (RoundingRanged n.rows n.columns n.top n.done) (λ y. rounding_numbers y ≡ n) x; itself : ResumesItself rounding n.rows n.columns n.top n.done (Ok x) }
 
-pub record LevelIs (n : LevelNumbers) (l : Level) : Type 0 where
-  pub took : Took (LevelRanged n.rows n.columns n.top n.done) (λ y. level_numbers y ≡ n) l
-  pub itself : ResumesItself level n.rows n.columns n.top n.done (Ok l)
+abbrev pub LevelIs : LevelNumbers → Level → Type 0
+LevelIs n l = record { does : Took (LevelRanged n.rows n.columns n.top n.done) (λ y. level_numbers y ≡ n) l; itself : ResumesItself level n.rows n.columns n.top n.done (Ok l) }
 
 -- an answer is not both accepted and refused
 never : {X E G : Type 0} (x : X) (e : E) → ◌≡◌ {A = Result X E} (Ok x) (Err e) → G
@@ -46,7 +44,7 @@ module _ (rule : Rule) (leaves : Shape → Tile → Tile → Type 0) where
   pub round_met : (n : RoundingNumbers) (x : Rounding) (t : Tile) (entries : ℕ) (own : Result Rounded (Refused Rounding)) (t' : Tile) → RoundingIs n x → RoundMeets rule leaves x t entries own t' →
       GoesOnUnder rule (rounding x) t rounding (λ a. rounding a.state) rounded own t' → RoundAnswers rule leaves n t entries (relayed why_of (λ (a : Rounded). rounding_numbers a.state) own) t'
   round_met n x t entries own t' is w go = record {
-    does = took_on _ _ x is.took (record { own = own; does = w; answers = refl });
+    does = took_on _ _ x is.does (record { own = own; does = w; answers = refl });
     goes_on = goes_on rounding (λ (a : Rounded). rounding a.state) (λ (a : Rounded). rounding_numbers a.state) of_rounding rounded (of_rounding n) x t t' rule own (only_rounding n x is.itself) (λ a p. refl)
         (round_returned x t entries own t' w.does) go;
   }
@@ -55,7 +53,7 @@ module _ (rule : Rule) (leaves : Shape → Tile → Tile → Type 0) where
   pub round_numbers : (n : RoundingNumbers) (x : Rounding) (t : Tile) (entries : ℕ) (a : Rounded) (t' : Tile) → RoundingIs n x → RoundDoes rule leaves x t entries (Ok a) t' →
       rounding_numbers a.state ≡ record { rows = n.rows; columns = n.columns; top = n.top; done = a.done }
   round_numbers n x t entries a t' is w =
-      let same = took_numbers (λ y. rounding_numbers y ≡ n) x is.took in
+      let same = took_numbers (λ y. rounding_numbers y ≡ n) x is.does in
       let no = λ (e : Refusal) (z : (◌≡◌ {A = Result Rounded (Refused Rounding)} (Ok a) (Err (record { state = x; why = e }))) × (t' ≡ t)).
       never {G = rounding_numbers a.state ≡ record { rows = n.rows; columns = n.columns; top = n.top; done = a.done }} a _ z.0 in
       either no (λ _. either no (λ _. either no (λ _. either no (λ _. either no (λ _ z.
@@ -74,13 +72,13 @@ finish_returned x t own w =
 pub finish_met : (n : RoundingNumbers) (x : Rounding) (t : Tile) (own : Result Level (Refused Rounding)) → RoundingIs n x → FinishDoes x t own → GoesOn (rounding x) t rounding level finished own t →
     FinishAnswers n t (relayed why_of level_numbers own)
 finish_met n x t own is w go = record {
-  does = took_on _ _ x is.took (record { own = own; does = w; answers = refl });
+  does = took_on _ _ x is.does (record { own = own; does = w; answers = refl });
   goes_on = λ rule. goes_on rounding level level_numbers of_level finished (of_rounding n) x t t rule own (only_rounding n x is.itself) (λ a p. refl) (finish_returned x t own w) (go rule);
 }
 
 pub finish_numbers : (n : RoundingNumbers) (x : Rounding) (t : Tile) (l : Level) → RoundingIs n x → FinishDoes x t (Ok l) → level_numbers l ≡ record { rows = n.rows; columns = n.columns; top = n.top; done = n.done }
 finish_numbers n x t l is w =
-    let same = took_numbers (λ y. rounding_numbers y ≡ n) x is.took in
+    let same = took_numbers (λ y. rounding_numbers y ≡ n) x is.does in
     let no = λ (e : Refusal) (z : ◌≡◌ {A = Result Level (Refused Rounding)} (Ok l) (Err (record { state = x; why = e }))).
     never {G = level_numbers l ≡ record { rows = n.rows; columns = n.columns; top = n.top; done = n.done }} l _ z in
     either no (λ _. either no (λ _. either no (λ _ z.
@@ -104,14 +102,14 @@ reopen_returned {S} state s done t own t' w =
 pub reopen_met : (n : RoundingNumbers) (x : Rounding) (t : Tile) (own : Result Draft (Refused Rounding)) (t' : Tile) → RoundingIs n x → ReopenDoes x x.shape x.done t own t' →
     GoesOn (rounding x) t rounding draft reopened own t' → ReopenAnswers n t (relayed why_of draft_numbers own) t'
 reopen_met n x t own t' is w go = record {
-  does = took_on _ _ x is.took (record { own = own; does = w; answers = refl });
+  does = took_on _ _ x is.does (record { own = own; does = w; answers = refl });
   goes_on = λ rule. goes_on rounding draft draft_numbers of_draft reopened (of_rounding n) x t t' rule own (only_rounding n x is.itself) (λ a p. refl) (reopen_returned x x.shape x.done t own t' w) (go rule);
 }
 
 pub reopen_level_met : (n : LevelNumbers) (l : Level) (t : Tile) (own : Result Draft (Refused Level)) (t' : Tile) → LevelIs n l → ReopenDoes l l.shape l.done t own t' →
     GoesOn (level l) t level draft reopened own t' → ReopenLevelAnswers n t (relayed why_of draft_numbers own) t'
 reopen_level_met n l t own t' is w go = record {
-  does = took_on _ _ l is.took (record { own = own; does = w; answers = refl });
+  does = took_on _ _ l is.does (record { own = own; does = w; answers = refl });
   goes_on = λ rule. goes_on level draft draft_numbers of_draft reopened (of_level n) l t t' rule own (only_level n l is.itself) (λ a p. refl) (reopen_returned l l.shape l.done t own t' w) (go rule);
 }
 
@@ -128,10 +126,10 @@ reopened_numbers {S} rows columns top state s done t d t' r c h w =
 
 pub reopen_numbers : (n : RoundingNumbers) (x : Rounding) (t : Tile) (d : Draft) (t' : Tile) → RoundingIs n x → ReopenDoes x x.shape x.done t (Ok d) t' → draft_numbers d ≡ record { rows = n.rows; columns = n.columns; top = n.top }
 reopen_numbers n x t d t' is w =
-    let same = took_numbers (λ y. rounding_numbers y ≡ n) x is.took in
+    let same = took_numbers (λ y. rounding_numbers y ≡ n) x is.does in
     reopened_numbers n.rows n.columns n.top x x.shape x.done t d t' (ap (λ (m : RoundingNumbers). m.rows) same) (ap (λ (m : RoundingNumbers). m.columns) same) (ap (λ (m : RoundingNumbers). m.top) same) w
 
 pub reopen_level_numbers : (n : LevelNumbers) (l : Level) (t : Tile) (d : Draft) (t' : Tile) → LevelIs n l → ReopenDoes l l.shape l.done t (Ok d) t' → draft_numbers d ≡ record { rows = n.rows; columns = n.columns; top = n.top }
 reopen_level_numbers n l t d t' is w =
-    let same = took_numbers (λ y. level_numbers y ≡ n) l is.took in
+    let same = took_numbers (λ y. level_numbers y ≡ n) l is.does in
     reopened_numbers n.rows n.columns n.top l l.shape l.done t d t' (ap (λ (m : LevelNumbers). m.rows) same) (ap (λ (m : LevelNumbers). m.columns) same) (ap (λ (m : LevelNumbers). m.top) same) w

@@ -25,26 +25,20 @@ rounding_has rows columns top done r k = cc (k.same_rows, k.same_columns, k.same
 level_has : (rows columns top done : ℕ) (l : Level) → HasNumbers rows columns top done (level l) → level_numbers l ≡ record { rows = rows; columns = columns; top = top; done = done }
 level_has rows columns top done l k = cc (k.same_rows, k.same_columns, k.same_top, k.same_done)
 
+-- a state that was resumed, by its numbers
+found : {X N : Type 0} (on : X → State) (numbers : X → N) (n : N) (rows columns top done : ℕ) → ((x : X) → HasNumbers rows columns top done (on x) → numbers x ≡ n) →
+    (answer : Result X Refusal) → Resumed on rows columns top done answer → (x : X) × (numbers x ≡ n) × (answer ≡ Ok x)
+found on numbers n rows columns top done has (Ok x) k = (x, has x k, refl)
+found on numbers n rows columns top done has (Err e) k = absurd k
+
 pub draft_taken : (n : DraftNumbers) (answer : Result Draft Refusal) → DraftResumed n.rows n.columns n.top answer → DraftTaken n (λ e. answer ≡ Err e) (λ d. answer ≡ Ok d)
-draft_taken n answer w = mapped (λ _ z. z) (found answer) w
-  where
-    found : (z : Result Draft Refusal) → Resumed draft n.rows n.columns n.top 0 z → (d : Draft) × (draft_numbers d ≡ n) × (z ≡ Ok d)
-    found (Ok d) k = (d, draft_has n.rows n.columns n.top d k, refl)
-    found (Err e) k = absurd k
+draft_taken n answer = mapped (λ _ z. z) (found draft draft_numbers n n.rows n.columns n.top 0 (draft_has n.rows n.columns n.top) answer)
 
 pub rounding_taken : (n : RoundingNumbers) (answer : Result Rounding Refusal) → RoundingResumed n.rows n.columns n.top n.done answer → RoundingTaken n (λ e. answer ≡ Err e) (λ r. answer ≡ Ok r)
-rounding_taken n answer w = mapped (λ _ z. z) (found answer) w
-  where
-    found : (z : Result Rounding Refusal) → Resumed rounding n.rows n.columns n.top n.done z → (r : Rounding) × (rounding_numbers r ≡ n) × (z ≡ Ok r)
-    found (Ok r) k = (r, rounding_has n.rows n.columns n.top n.done r k, refl)
-    found (Err e) k = absurd k
+rounding_taken n answer = mapped (λ _ z. z) (found rounding rounding_numbers n n.rows n.columns n.top n.done (rounding_has n.rows n.columns n.top n.done) answer)
 
 pub level_taken : (n : LevelNumbers) (answer : Result Level Refusal) → LevelResumed n.rows n.columns n.top n.done answer → LevelTaken n (λ e. answer ≡ Err e) (λ l. answer ≡ Ok l)
-level_taken n answer w = mapped (λ _ z. z) (found answer) w
-  where
-    found : (z : Result Level Refusal) → Resumed level n.rows n.columns n.top n.done z → (l : Level) × (level_numbers l ≡ n) × (z ≡ Ok l)
-    found (Ok l) k = (l, level_has n.rows n.columns n.top n.done l k, refl)
-    found (Err e) k = absurd k
+level_taken n answer = mapped (λ _ z. z) (found level level_numbers n n.rows n.columns n.top n.done (level_has n.rows n.columns n.top n.done) answer)
 
 -- ---- a state that was taken
 

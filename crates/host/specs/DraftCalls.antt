@@ -14,6 +14,7 @@ use Rattle.host.specs.Numbers.{draft_numbers, rounding_numbers, of_draft, of_rou
 use Rattle.host.specs.Runs.{RunsGoOn}
 use Rattle.host.specs.Telling.{why_of, plain, Relayed}
 
+-- start: what the filter's start does, with the numbers of the draft for the draft
 pub record StartAnswers (rows columns top : ℕ) (t : Tile) (answer : Result DraftNumbers Refusal) (t' : Tile) : Type 0 where
   pub does : Relayed plain draft_numbers (λ own. StartDoes rows columns top t own t') answer
   -- accepted, it begins a run under every rule, whose state has the numbers that are answered
@@ -23,15 +24,17 @@ pub record StartAnswers (rows columns top : ℕ) (t : Tile) (answer : Result Dra
 abbrev pub place_in : DraftNumbers → ℕ → ℕ → ℕ
 place_in n row column = row * n.columns + column
 
+-- put: what the filter's put does for the draft of the numbers n, and every run that led to it goes on
 pub record PutAnswers (n : DraftNumbers) (t : Tile) (row column v q : ℕ) (answer : Result (Unit {0}) Refusal) (t' : Tile) : Type 0 where
   pub does : DraftTaken n (λ e. (answer ≡ Err e) × (t' ≡ t)) (λ d. Relayed why_of (λ _. tt) (λ own. PutDoes d t row column v q own t') answer)
   pub goes_on : RunsGoOn (of_draft n) t (put_at (place_in n row column) v q) (λ _. of_draft n) answer t'
 
--- with a weight w for each side
+-- tie: the same for the filter's tie, with a weight w for each side
 pub record TieAnswers (n : DraftNumbers) (t : Tile) (row column : ℕ) (w : Side → ℕ) (answer : Result (Unit {0}) Refusal) (t' : Tile) : Type 0 where
   pub does : DraftTaken n (λ e. (answer ≡ Err e) × (t' ≡ t)) (λ d. Relayed why_of (λ _. tt) (λ own. TieDoes d t row column w own t') answer)
   pub goes_on : RunsGoOn (of_draft n) t (tied_at (place_in n row column) w) (λ _. of_draft n) answer t'
 
+-- begin: the same for the filter's begin, with the numbers of the rounding for the rounding
 pub record BeginAnswers (n : DraftNumbers) (t : Tile) (answer : Result RoundingNumbers Refusal) : Type 0 where
   pub does : DraftTaken n (λ e. answer ≡ Err e) (λ d. Relayed why_of rounding_numbers (BeginDoes d t) answer)
   pub goes_on : RunsGoOn (of_draft n) t begun of_rounding answer t

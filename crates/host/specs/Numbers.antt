@@ -25,11 +25,13 @@ rounding_numbers r = record { rows = r.shape.rows; columns = r.shape.columns; to
 abbrev pub level_numbers : Level → LevelNumbers
 level_numbers l = record { rows = l.shape.rows; columns = l.shape.columns; top = l.shape.top; done = l.done }
 
+-- the numbers of a state of any of the three kinds
 pub data Numbers : Type 0 where
   of_draft : DraftNumbers → Numbers
   of_rounding : RoundingNumbers → Numbers
   of_level : LevelNumbers → Numbers
 
+-- the numbers of this state
 abbrev pub numbers_of : State → Numbers
 numbers_of (draft d) = of_draft (draft_numbers d)
 numbers_of (rounding r) = of_rounding (rounding_numbers r)

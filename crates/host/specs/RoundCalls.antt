@@ -36,6 +36,7 @@ pub record RoundMeets (rule : Rule) (leaves : Shape → Tile → Tile → Type 0
   pub kept : SurveyKept x.shape t t'
   pub sound : IfOk own (λ a. Sound a.state.shape a.state.done t')
 
+-- round: what the filter's round does for the rounding of the numbers n, and every run under the rule that led to it goes on
 pub record RoundAnswers (rule : Rule) (leaves : Shape → Tile → Tile → Type 0) (n : RoundingNumbers) (t : Tile) (entries : ℕ) (answer : Result RoundingNumbers Refusal) (t' : Tile) : Type 0 where
   pub does : RoundingTaken n (λ e. (answer ≡ Err e) × (t' ≡ t)) (λ x. Relayed why_of (λ (a : Rounded). rounding_numbers a.state) (λ own. RoundMeets rule leaves x t entries own t') answer)
   pub goes_on : RunsGoOnUnder rule (of_rounding n) t rounded of_rounding answer t'
@@ -47,10 +48,12 @@ KeptUnlessDone (suc _) before after = after ≡ before
 
 -- ---- finish and reopen
 
+-- finish: what the filter's finish does for that rounding, and every run that led to it goes on
 pub record FinishAnswers (n : RoundingNumbers) (t : Tile) (answer : Result LevelNumbers Refusal) : Type 0 where
   pub does : RoundingTaken n (λ e. answer ≡ Err e) (λ x. Relayed why_of level_numbers (FinishDoes x t) answer)
   pub goes_on : RunsGoOn (of_rounding n) t finished of_level answer t
 
+-- the same for the filter's reopen
 pub record ReopenAnswers (n : RoundingNumbers) (t : Tile) (answer : Result DraftNumbers Refusal) (t' : Tile) : Type 0 where
   pub does : RoundingTaken n (λ e. (answer ≡ Err e) × (t' ≡ t)) (λ x. Relayed why_of draft_numbers (λ own. ReopenDoes x x.shape x.done t own t') answer)
   pub goes_on : RunsGoOn (of_rounding n) t reopened of_draft answer t'

@@ -13,6 +13,7 @@ why_of e = e.why
 abbrev pub plain : Refusal → Refusal
 plain e = e
 
+-- what C gets of an answer: the numbers that stand for what was answered, or the refusal
 abbrev pub relayed : {E X M : Type 0} → (E → Refusal) → (X → M) → Result X E → Result M Refusal
 relayed why numbers (Ok x) = Ok (numbers x)
 relayed why numbers (Err e) = Err (why e)

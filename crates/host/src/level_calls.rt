@@ -1,6 +1,5 @@
 // The calls once every cell has one height.
 ghost use Rattle.std.specs.Prelude.{◌≡◌};
-ghost use Rattle.price.specs.Rules.{ruled};
 ghost use Rattle.filter.specs.Laws.{EveryRunKeepsTheLaw};
 ghost use Rattle.tilefile.specs.Faults.{flaw_number};
 ghost use Rattle.tilefile.specs.Letters.{letter_rule};
@@ -10,12 +9,8 @@ ghost use Rattle.host.specs.Telling.{Coded, Told};
 
 use crate::numbers::{DraftNumbers, LevelNumbers};
 use crate::telling::{code, tell};
-use price::absolute::AbsoluteCurve;
-use price::leaning::LeaningCurve;
-use price::squared::SquaredCurve;
-use price::{Curve, CurveRule};
 use tile::{Cell, Refusal};
-use tilefile::{Flaw, Letter};
+use tilefile::{Flaw, Letter, LetterRule};
 
 fn height(level: LevelNumbers, tile: &[Cell], row: usize, column: usize) -> Result<u16, Refusal>
     ensures { HeightAnswers level tile.now row column result }
@@ -29,23 +24,12 @@ fn heights(level: LevelNumbers, tile: &[Cell], heights: &mut [u16]) -> Result<()
     level.state()?.heights(tile, heights)
 }
 
-// The energy under the rule of a curve, made for the top.
-fn cost_under<C: Curve>(level: LevelNumbers, tile: &[Cell]) -> Result<u64, Refusal>
-    ensures { CostAnswers (ruled C.price level.top) level tile.now result }
-{
-    let rule = CurveRule::<C>::new(level.top)?;
-    level.state()?.cost(tile, &rule)
-}
-
-// The same under the rule of a letter.
+// The energy under the rule of a letter, made for the top.
 fn cost(level: LevelNumbers, letter: Letter, tile: &[Cell]) -> Result<u64, Refusal>
     ensures { CostAnswers (letter_rule letter level.top) level tile.now result }
 {
-    match letter {
-        Letter::Absolute => cost_under::<AbsoluteCurve>(level, tile),
-        Letter::Squared => cost_under::<SquaredCurve>(level, tile),
-        Letter::Leaning => cost_under::<LeaningCurve>(level, tile),
-    }
+    let rule = LetterRule::new(letter, level.top)?;
+    level.state()?.cost(tile, &rule)
 }
 
 fn reopen(level: LevelNumbers, tile: &mut [Cell]) -> Result<DraftNumbers, Refusal>

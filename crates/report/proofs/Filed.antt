@@ -18,30 +18,35 @@ use Rattle.report.specs.declared.refusing.FileRefusal.TheVariants.{File, Call}
 use Rattle.report.specs.declared.solving.Solution.{Solution}
 use Rattle.report.specs.Solving.{SolvedAs, FileSolved, SolveFileDoes}
 
+-- a check of a call, by what its function answers
+abbrev pub Met : ℕ → Refusal → Type 0 → Result (Unit {0}) Refusal → Type 0
+Met number e Holds answer = Checked number e Holds (λ why. answer ≡ Err why) (answer ≡ Ok tt)
+
+-- one that was passed holds
+pub met : {n : ℕ} {e : Refusal} {Holds : Type 0} → Met n e Holds (Ok tt) → Holds
+met w = either (λ e z. none_found e z) (λ h _. h) w
+
+-- the fault that was found, and the refusal of a check, are what is answered
+pub same_fault : {X Y : Type 0} (why e : Fault) (answer : Result Y FileRefusal) → answer ≡ Err (File why) → ◌≡◌ {A = Result X Fault} (Err why) (Err e) → answer ≡ Err (File e)
+same_fault why e answer same z = let here : why ≡ e = cc z in same ∙ ap (λ (k : Fault). Err (File k)) here
+
+pub same_call : {X Y : Type 0} (why e : Refusal) (answer : Result Y FileRefusal) → answer ≡ Err (Call why) → ◌≡◌ {A = Result X Refusal} (Err why) (Err e) → answer ≡ Err (Call e)
+same_call why e answer same z = let here : why ≡ e = cc z in same ∙ ap (λ (k : Refusal). Err (Call k)) here
+
 -- what a file that was checked comes to
 abbrev pub Outcome : List ℕ → Tile → ℕ → Result Solution FileRefusal → Tile → Shape → Type 0
 Outcome f t n answer t' s = Checked 7 FewEntries (cells s ≤ n) (λ e. (answer ≡ Err (Call e)) × (t' ≡ t)) (FileSolved s f t answer t')
 
 -- a fault
 pub file_faulty : (f : List ℕ) (t : Tile) (n : ℕ) (why : Fault) (answer : Result Solution FileRefusal) → answer ≡ Err (File why) → CheckDoes f (length t) (Err why) → SolveFileDoes f t n answer t
-file_faulty f t n why answer same w = file_mapped (λ s. ⊥) (Outcome f t n answer t) f (length t) left (λ s z. absurd z) w
-  where
-    left : (e : Fault) → ◌≡◌ {A = Result Contents Fault} (Err why) (Err e) → (answer ≡ Err (File e)) × (t ≡ t)
-    left e z = let here : why ≡ e = cc z in (same ∙ ap (λ (k : Fault). Err (File k)) here, refl)
+file_faulty f t n why answer same w = file_mapped (λ s. ⊥) (Outcome f t n answer t) f (length t) (λ e z. (same_fault why e answer same z, refl)) (λ s z. absurd z) w
 
 -- too few entries of workspace
 pub file_cramped : (f : List ℕ) (t : Tile) (n : ℕ) (x : Contents) (why : Refusal) (answer : Result Solution FileRefusal) → answer ≡ Err (Call why) →
-    Checked 7 FewEntries (cells x.shape ≤ n) (λ e. ◌≡◌ {A = Result (Unit {0}) Refusal} (Err why) (Err e)) (◌≡◌ {A = Result (Unit {0}) Refusal} (Err why) (Ok tt)) → CheckDoes f (length t) (Ok x) → SolveFileDoes f t n answer t
+    Met 7 FewEntries (cells x.shape ≤ n) (Err why) → CheckDoes f (length t) (Ok x) → SolveFileDoes f t n answer t
 file_cramped f t n x why answer same room w =
     file_mapped (λ s. Says s f x) (Outcome f t n answer t) f (length t) (λ e z. none_found e z)
-    (λ s says. subst (λ (z : Shape). Outcome f t n answer t z) says.shape (mapped left (λ z. none_found _ (sym z)) room)) w
-  where
-    left : (e : Refusal) → ◌≡◌ {A = Result (Unit {0}) Refusal} (Err why) (Err e) → (answer ≡ Err (Call e)) × (t ≡ t)
-    left e z = let here : why ≡ e = cc z in (same ∙ ap (λ (k : Refusal). Err (Call k)) here, refl)
-
--- enough of them
-pub room_found : (n m : ℕ) → Checked 7 FewEntries (m ≤ n) (λ e. ◌≡◌ {A = Result (Unit {0}) Refusal} (Ok tt) (Err e)) (◌≡◌ {A = Result (Unit {0}) Refusal} (Ok tt) (Ok tt)) → m ≤ n
-room_found n m room = either (λ e z. none_found e z) (λ h _. h) room
+    (λ s says. subst (λ (z : Shape). Outcome f t n answer t z) says.shape (mapped (λ e z. (same_call why e answer same z, refl)) (λ z. none_found _ (sym z)) room)) w
 
 -- a solution, for the shape that the file asks for
 pub solution_filed : (f : List ℕ) (t : Tile) (x : Contents) (solution : Solution) (t' : Tile) → SolvedAs (letter_rule x.letter x.shape.top) x.shape (contents_survey x) t' solution → PastKept (cells x.shape) t t' →

@@ -2,8 +2,8 @@
 use Rattle.std.proofs.Common.{◌≡◌, ℕ, ◌≤◌, List, length, Ok, Err, Result, refl, sym, ap, subst, ◌∙◌}
 use Rattle.limits.specs.declared.refusal.Refusal.{Refusal}
 use Rattle.limits.specs.declared.refusal.Refusal.TheVariants.{FewRecords, FewEntries}
-use Rattle.limits.specs.Checking.{Checked, passed}
-use Rattle.limits.proofs.Outcomes.{mapped, either, none_found}
+use Rattle.limits.specs.Checking.{passed}
+use Rattle.limits.proofs.Outcomes.{mapped, none_found}
 use Rattle.tile.specs.declared.shape.Shape.{Shape}
 use Rattle.tile.specs.Shapes.{cells}
 use Rattle.tile.specs.Tiles.{Tile}
@@ -19,11 +19,7 @@ use Rattle.report.specs.declared.refusing.FileRefusal.TheVariants.{File, Call}
 use Rattle.report.specs.declared.solving.Solution.{Solution}
 use Rattle.report.specs.Solving.{SolvedAs}
 use Rattle.report.specs.Copying.{LeavesBoth, SolvedInto, PlacesChecked, SolveFileIntoDoes}
-use Rattle.report.proofs.Filed.{solution_filed}
-
--- a check of a call, by what its function answers
-abbrev pub Met : ℕ → Refusal → Type 0 → Result (Unit {0}) Refusal → Type 0
-Met number e Holds answer = Checked number e Holds (λ why. answer ≡ Err why) (answer ≡ Ok tt)
+use Rattle.report.proofs.Filed.{Met, met, same_fault, same_call, solution_filed}
 
 -- what a file that was checked comes to
 abbrev pub Outcome : List ℕ → Tile → ℕ → List ℕ → Result Solution FileRefusal → Tile → List ℕ → Shape → Type 0
@@ -31,14 +27,14 @@ Outcome f t n hs answer t' hs' s = PlacesChecked s (length hs) n (LeavesBoth t h
 
 -- nothing written
 both_left : (t : Tile) (hs : List ℕ) (why e : Refusal) (answer : Result Solution FileRefusal) → answer ≡ Err (Call why) → ◌≡◌ {A = Result (Unit {0}) Refusal} (Err why) (Err e) → LeavesBoth t hs answer t hs (Call e)
-both_left t hs why e answer same z = let here : why ≡ e = cc z in record { answers = same ∙ ap (λ (k : Refusal). Err (Call k)) here; tile = refl; list = refl }
+both_left t hs why e answer same z = record { answers = same_call why e answer same z; tile = refl; list = refl }
 
 -- a fault
 pub into_faulty : (f : List ℕ) (t : Tile) (n : ℕ) (hs : List ℕ) (why : Fault) (answer : Result Solution FileRefusal) → answer ≡ Err (File why) → CheckDoes f (length t) (Err why) → SolveFileIntoDoes f t n hs answer t hs
 into_faulty f t n hs why answer same w = file_mapped (λ s. ⊥) (Outcome f t n hs answer t hs) f (length t) left (λ s z. absurd z) w
   where
     left : (e : Fault) → ◌≡◌ {A = Result Contents Fault} (Err why) (Err e) → LeavesBoth t hs answer t hs (File e)
-    left e z = let here : why ≡ e = cc z in record { answers = same ∙ ap (λ (k : Fault). Err (File k)) here; tile = refl; list = refl }
+    left e z = record { answers = same_fault why e answer same z; tile = refl; list = refl }
 
 -- too few places
 pub into_unplaced : (f : List ℕ) (t : Tile) (n : ℕ) (hs : List ℕ) (x : Contents) (why : Refusal) (answer : Result Solution FileRefusal) → answer ≡ Err (Call why) →
@@ -46,10 +42,6 @@ pub into_unplaced : (f : List ℕ) (t : Tile) (n : ℕ) (hs : List ℕ) (x : Con
 into_unplaced f t n hs x why answer same places w =
     file_mapped (λ s. Says s f x) (Outcome f t n hs answer t hs) f (length t) (λ e z. none_found e z)
     (λ s says. subst (λ (z : Shape). Outcome f t n hs answer t hs z) says.shape (mapped (λ e z. both_left t hs why e answer same z) (λ z. none_found _ (sym z)) places)) w
-
--- a check that was passed holds
-pub met : {n : ℕ} {e : Refusal} {Holds : Type 0} → Met n e Holds (Ok tt) → Holds
-met w = either (λ e z. none_found e z) (λ h _. h) w
 
 -- too few entries of workspace
 pub into_cramped : (f : List ℕ) (t : Tile) (n : ℕ) (hs : List ℕ) (x : Contents) (why : Refusal) (answer : Result Solution FileRefusal) → answer ≡ Err (Call why) →

@@ -4,7 +4,6 @@ ghost use Rattle.limits.specs.declared.refusal.Refusal.TheVariants.{FewEntries};
 ghost use Rattle.limits.specs.Checking.{Checked};
 ghost use Rattle.tile.specs.Halving.{RoundsDue};
 ghost use Rattle.filter.specs.Calls.{KeptIfRefused};
-ghost use Rattle.price.specs.Rules.{ruled};
 ghost use Rattle.tile.specs.Shapes.{cells};
 ghost use Rattle.tilefile.specs.Letters.{letter_rule};
 ghost use Rattle.tilefile.specs.Contents.{contents_survey};
@@ -13,14 +12,11 @@ ghost use Rattle.report.specs.Solving.{SolvedAs, SolveFileDoes};
 
 use crate::refusing::FileRefusal;
 use flow::CutMaker;
-use price::absolute::AbsoluteCurve;
-use price::leaning::LeaningCurve;
-use price::squared::SquaredCurve;
-use price::{Curve, CurveRule, PriceRule};
+use price::PriceRule;
 use solve::solve;
 use tile::bracket::rounds_due;
 use tile::{Cell, Refusal, Shape};
-use tilefile::{Contents, Letter};
+use tilefile::{Contents, LetterRule};
 
 // What solving a file came to. The heights are the low ends of the records. Laid out as in C.
 #[repr(C)]
@@ -81,22 +77,6 @@ fn solve_contents<P: PriceRule, M: CutMaker>(
     solution_of(contents.shape(), energy)
 }
 
-// The same under the rule of a curve.
-fn solve_under<C: Curve, M: CutMaker>(
-    contents: &Contents,
-    tile: &mut [Cell],
-    maker: &M,
-    entries: &mut [M::Entry],
-) -> Solution
-    requires records { cells contents.now.shape ≤ length tile.old }
-    requires room { cells contents.now.shape ≤ length entries.old }
-    ensures solved { SolvedAs (ruled C.price contents.now.shape.top) contents.now.shape (contents_survey contents.now) tile.new result }
-    ensures kept { PastKept (cells contents.now.shape) tile.old tile.new }
-{
-    let rule = CurveRule::<C>::new(contents.shape().top()).unwrap();
-    solve_contents(contents, &rule, tile, maker, entries)
-}
-
 // The same under the rule of the file's letter.
 pub(crate) fn solve_by_letter<M: CutMaker>(
     contents: &Contents,
@@ -109,12 +89,8 @@ pub(crate) fn solve_by_letter<M: CutMaker>(
     ensures solved { SolvedAs (letter_rule contents.now.letter contents.now.shape.top) contents.now.shape (contents_survey contents.now) tile.new result }
     ensures kept { PastKept (cells contents.now.shape) tile.old tile.new }
 {
-    // The letter picks the type of the rule.
-    match contents.letter() {
-        Letter::Absolute => solve_under::<AbsoluteCurve, M>(contents, tile, maker, entries),
-        Letter::Squared => solve_under::<SquaredCurve, M>(contents, tile, maker, entries),
-        Letter::Leaning => solve_under::<LeaningCurve, M>(contents, tile, maker, entries),
-    }
+    let rule = LetterRule::new(contents.letter(), contents.shape().top()).unwrap();
+    solve_contents(contents, &rule, tile, maker, entries)
 }
 
 // Solves a tile file: reads it into the records, and makes their low ends the lowest cheapest grid of what the file says, under the

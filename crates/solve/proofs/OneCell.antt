@@ -4,7 +4,7 @@ use Rattle.limits.specs.Limits.{most_rows}
 use Rattle.limits.specs.declared.refusal.Refusal.{Refusal}
 use Rattle.limits.specs.declared.refusal.Refusal.TheVariants.{FewEntries}
 use Rattle.limits.specs.Checking.{Checked}
-use Rattle.limits.proofs.Outcomes.{followed, surely}
+use Rattle.limits.proofs.Outcomes.{followed, surely, same_refusal}
 use Rattle.price.specs.Rules.{Rule, Lawful}
 use Rattle.tile.specs.declared.shape.Shape.{Shape}
 use Rattle.tile.specs.Shapes.{cells, Ranged, MadeOf}
@@ -18,7 +18,7 @@ use Rattle.solve.specs.Solving.{PastKept, SolvesRuns, Solved}
 use Rattle.solve.specs.Refusing.{SameHistory}
 use Rattle.solve.specs.OneCell.{FinishedRun, OneCellDoes}
 use Rattle.filter.proofs.RunsKept.{not_both, run_shape}
-use Rattle.solve.proofs.Steps.{same_refusal, started_shape}
+use Rattle.solve.proofs.Steps.{started_shape}
 use Rattle.solve.proofs.Past.{past_more, started_past, survey_past}
 
 ranged : Ranged most_rows 1 1 1

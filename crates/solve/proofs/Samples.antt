@@ -3,9 +3,9 @@ use Rattle.std.proofs.Common.{◌≡◌, ℕ, ◌+◌, ◌*◌, ◌<◌, ◌≤�
 use Rattle.std.proofs.lemmas.List.{get_or-take, get_or_past, length-take-le}
 use Rattle.std.proofs.lemmas.Bool.{cond_both, cases_lt, eqb-true, eqb-false}
 use Rattle.limits.specs.declared.refusal.Refusal.{Refusal}
-use Rattle.limits.specs.declared.refusal.Refusal.TheVariants.{FewRecords, Tie}
+use Rattle.limits.specs.declared.refusal.Refusal.TheVariants.{FewRecords, Reading, Tie}
 use Rattle.limits.specs.Checking.{Checked, refused, passed}
-use Rattle.limits.proofs.Outcomes.{mapped, followed, surely}
+use Rattle.limits.proofs.Outcomes.{mapped, followed, surely, unrefused, same_found}
 use Rattle.limits.proofs.Each.{each_passed, each_refused}
 use Rattle.price.specs.Rules.{Rule, Lawful}
 use Rattle.tile.specs.declared.shape.Shape.{Shape}
@@ -14,20 +14,21 @@ use Rattle.tile.specs.declared.side.Side.TheVariants.{Rightward, Downward}
 use Rattle.tile.specs.Shapes.{cells}
 use Rattle.tile.specs.Tiles.{Tile, Survey, cell}
 use Rattle.passes.specs.Soundness.{SoundReading, SoundTies}
-use Rattle.passes.specs.Writing.{with_reading, with_ties, weights}
+use Rattle.passes.specs.Writing.{with_ties, weights}
 use Rattle.filter.specs.declared.states.Draft.{Draft}
 use Rattle.filter.specs.declared.answers.Refused.{Refused}
-use Rattle.filter.specs.Checks.{Inside, place, PutChecked, TieChecked}
+use Rattle.filter.specs.Checks.{Inside, place}
 use Rattle.filter.specs.Calls.{LeavesAll, PutDoes, TieDoes}
-use Rattle.filter.specs.Runs.{put_at, tied_at, History, updated, draft, Lent, Run, GoesOn}
+use Rattle.filter.specs.Runs.{Accepted, put_at, tied_at, History, updated, draft, Lent, Run, GoesOn}
 use Rattle.filter.specs.Laws.{EveryRunKeepsTheLaw}
+use Rattle.filter.proofs.Writes.{put_wrote, tie_wrote}
 use Rattle.filter.proofs.Places.{place_of, inside_of}
 use Rattle.solve.specs.declared.surveying.Sample.{Sample}
 use Rattle.solve.specs.Solving.{PastKept, Led}
-use Rattle.solve.specs.Surveying.{At, sample, ties, sampled, SampleChecked, Drafted, PutsSample, TiesSample, WritesSample, Surveyed, WritesSamples}
+use Rattle.solve.specs.Surveying.{At, sample, ties, sampled, SampleChecked, Drafted, FromDraft, WritesSample, Surveyed, WritesSamples}
 use Rattle.filter.proofs.RunsKept.{not_both, run_shape, sound_slice}
 use Rattle.solve.proofs.Steps.{plain, goes}
-use Rattle.solve.proofs.Past.{SameDraft, past_none, past_more, put_past, tie_past}
+use Rattle.solve.proofs.Past.{SameDraft, past_none, past_more, wrote_past}
 
 -- ---- one cell, by its row and column
 
@@ -37,74 +38,76 @@ spot s u row column at = ap₂ (λ (a b : ℕ). a * s.columns + b) at.row at.col
 within : (s : Shape) (u row column : ℕ) → At s u row column → u < cells s → Inside s row column
 within s u row column at l = let here = inside_of s u l in (omega (arith, at.row, here.0), omega (arith, at.column, here.1))
 
+-- a run that led to a draft is of its shape
+of_its_shape : EveryRunKeepsTheLaw → (d : Draft) (t : Tile) (u : ℕ) (Goal : Rule → Shape → History → Type 0) →
+    ((rule : Rule) → Lawful rule → (h : History) → cells d.shape ≤ length t → u < cells d.shape → Run rule d.shape h (draft d) (take (cells d.shape) t) → Goal rule d.shape h) → FromDraft d t u Goal
+of_its_shape law d t u Goal k rule lawful s h whole inside run =
+    subst (λ (z : Shape). cells z ≤ length t → u < cells z → Run rule z h (draft d) (take (cells z) t) → Goal rule z h) (run_shape law rule lawful run) (k rule lawful h) whole inside run
+
+-- and goes on with an accepted call that writes one of its cells
+one_more : (d : Draft) (t : Tile) (u row column : ℕ) (a : ℕ → Accepted) (answer : Result Draft (Refused Draft)) (t' : Tile) → At d.shape u row column →
+    GoesOn (draft d) t draft draft (a (place d.shape row column)) answer t' → (rule : Rule) (h : History) → cells d.shape ≤ length t → Run rule d.shape h (draft d) (take (cells d.shape) t) →
+    answer ≡ Ok d → Drafted rule d.shape (a u ∷ h) (plain (λ z. z) answer) (take (cells d.shape) t')
+one_more d t u row column a answer t' at on rule h whole run ok = record {
+  answered = d;
+  answers = ap (plain (λ z. z)) ok;
+  run = subst (λ (p : ℕ). Run rule d.shape (a p ∷ h) (draft d) (take (cells d.shape) t')) (spot d.shape u row column at)
+      (goes draft draft answer d ok (on rule d.shape h (take (cells d.shape) t) (take (cells d.shape) t') run (Lent.all whole)));
+}
+
 puts : EveryRunKeepsTheLaw → (d : Draft) (t : Tile) (u row column : ℕ) (x : Sample) (answer : Result Draft (Refused Draft)) (t' : Tile) → At d.shape u row column →
     PutDoes d t row column x.reading x.class answer t' →
-    GoesOn (draft d) t draft draft (put_at (place d.shape row column) x.reading x.class) answer t' → PutsSample d t u x (plain (λ z. z) answer) t'
-puts law d t u row column x answer t' at does on rule lawful s h whole inside run =
-    followed (λ _ e z. ap (plain (λ z. z)) z.0) (λ _ a. record { answered = d; answers = ap (plain (λ z. z)) a.0; run = end a.0 })
-    (surely (within s u row column here inside) (surely (sound_slice law rule lawful s h (draft d) t run) (surely whole checked)))
-  where
-    same : d.shape ≡ s
-    same = run_shape law rule lawful run
-
-    here : At s u row column
-    here = subst (λ (z : Shape). At z u row column) same at
-
-    Writes : Type 0
-    Writes = (answer ≡ Ok d) × (t' ≡ set t (place d.shape row column) (with_reading x.reading x.class (cell t (place d.shape row column))))
-
-    checked : PutChecked s t row column x.reading x.class (LeavesAll d t answer t') Writes
-    checked = subst (λ (z : Shape). PutChecked z t row column x.reading x.class (LeavesAll d t answer t') Writes) same does
-
-    end : answer ≡ Ok d → Run rule s (put_at u x.reading x.class ∷ h) (draft d) (take (cells s) t')
-    end ok = subst (λ (p : ℕ). Run rule s (put_at p x.reading x.class ∷ h) (draft d) (take (cells s) t')) (spot d.shape u row column at)
-        (goes draft draft answer d ok (on rule s h (take (cells s) t) (take (cells s) t') run (Lent.all whole)))
-
--- what put_sample ensures
-abbrev pub PutMet : Draft → Tile → ℕ → Sample → Result Draft Refusal → Tile → Type 0
-PutMet d t u x answer t' = record { same : SameDraft d answer; past : PastKept (cells d.shape) t t'; does : PutsSample d t u x answer t' }
-
-pub put_met : EveryRunKeepsTheLaw → (d : Draft) (t : Tile) (u row column : ℕ) (x : Sample) (answer : Result Draft (Refused Draft)) (t' : Tile) → At d.shape u row column →
-    PutDoes d t row column x.reading x.class answer t' →
-    GoesOn (draft d) t draft draft (put_at (place d.shape row column) x.reading x.class) answer t' → PutMet d t u x (plain (λ z. z) answer) t'
-put_met law d t u row column x answer t' at does on =
-    let k = put_past d t row column x.reading x.class answer t' does in
-    record { same = k.0; past = k.1; does = puts law d t u row column x answer t' at does on }
+    GoesOn (draft d) t draft draft (put_at (place d.shape row column) x.reading x.class) answer t' →
+    FromDraft d t u (λ rule s h. Checked 5 Reading (SoundReading s.top x.reading x.class) (λ e. plain (λ z. z) answer ≡ Err e) (Drafted rule s (put_at u x.reading x.class ∷ h) (plain (λ z. z) answer) (take (cells s) t')))
+puts law d t u row column x answer t' at does on = of_its_shape law d t u _ (λ rule lawful h whole inside run.
+    followed (λ _ e z. ap (plain (λ z. z)) z.0) (λ _ a. one_more d t u row column (λ p. put_at p x.reading x.class) answer t' at on rule h whole run a.0)
+    (surely (within d.shape u row column at inside) (surely (sound_slice law rule lawful d.shape h (draft d) t run) (surely whole does))))
 
 ties_up : EveryRunKeepsTheLaw → (d : Draft) (t : Tile) (u row column : ℕ) (x : Sample) (answer : Result Draft (Refused Draft)) (t' : Tile) → At d.shape u row column →
     TieDoes d t row column (ties x) answer t' →
-    GoesOn (draft d) t draft draft (tied_at (place d.shape row column) (ties x)) answer t' → TiesSample d t u x (plain (λ z. z) answer) t'
-ties_up law d t u row column x answer t' at does on rule lawful s h whole inside run =
-    followed (λ _ e z. ap (plain (λ z. z)) z.0) (λ _ a. record { answered = d; answers = ap (plain (λ z. z)) a.0; run = end a.0 })
-    (subst (λ (p : ℕ). Checked 6 Tie (SoundTies s p (ties x)) (LeavesAll d t answer t') Writes) (spot s u row column here)
-    (surely (within s u row column here inside) (surely (sound_slice law rule lawful s h (draft d) t run) (surely whole checked))))
-  where
-    same : d.shape ≡ s
-    same = run_shape law rule lawful run
+    GoesOn (draft d) t draft draft (tied_at (place d.shape row column) (ties x)) answer t' →
+    FromDraft d t u (λ rule s h. Checked 6 Tie (SoundTies s u (ties x)) (λ e. plain (λ z. z) answer ≡ Err e) (Drafted rule s (tied_at u (ties x) ∷ h) (plain (λ z. z) answer) (take (cells s) t')))
+ties_up law d t u row column x answer t' at does on = of_its_shape law d t u _ (λ rule lawful h whole inside run.
+    followed (λ _ e z. ap (plain (λ z. z)) z.0) (λ _ a. one_more d t u row column (λ p. tied_at p (ties x)) answer t' at on rule h whole run a.0)
+    (subst (λ (p : ℕ). Checked 6 Tie (SoundTies d.shape p (ties x)) (LeavesAll d t answer t') ((answer ≡ Ok d) × (t' ≡ set t (place d.shape row column) (with_ties (ties x) (cell t (place d.shape row column)))))) (spot d.shape u row column at)
+    (surely (within d.shape u row column at inside) (surely (sound_slice law rule lawful d.shape h (draft d) t run) (surely whole does)))))
 
-    here : At s u row column
-    here = subst (λ (z : Shape). At z u row column) same at
+-- what write_sample ensures
+abbrev pub SampleMet : Draft → Tile → ℕ → Sample → Result Draft Refusal → Tile → Type 0
+SampleMet d t u x answer t' = record { same : SameDraft d answer; past : PastKept (cells d.shape) t t'; does : WritesSample d t u x answer t' }
 
-    Writes : Type 0
-    Writes = (answer ≡ Ok d) × (t' ≡ set t (place d.shape row column) (with_ties (ties x) (cell t (place d.shape row column))))
+-- where the put is refused
+pub put_refused : EveryRunKeepsTheLaw → (d : Draft) (t : Tile) (u row column : ℕ) (x : Sample) (why : Refused Draft) (t' : Tile) → At d.shape u row column →
+    PutDoes d t row column x.reading x.class (Err why) t' →
+    GoesOn (draft d) t draft draft (put_at (place d.shape row column) x.reading x.class) (Err why) t' → SampleMet d t u x (Err why.why) t'
+put_refused law d t u row column x why t' at does on =
+    let k = wrote_past (put_wrote d t row column x.reading x.class (Err why) t' does) in
+    record {
+      same = k.0;
+      past = k.1;
+      does = λ rule lawful s h whole inside run. mapped (λ _ z. z) (λ a. not_both (Err why.why) a.answered why.why a.answers refl) (puts law d t u row column x (Err why) t' at does on rule lawful s h whole inside run);
+    }
 
-    checked : TieChecked s t row column (ties x) (LeavesAll d t answer t') Writes
-    checked = subst (λ (z : Shape). TieChecked z t row column (ties x) (LeavesAll d t answer t') Writes) same does
-
-    end : answer ≡ Ok d → Run rule s (tied_at u (ties x) ∷ h) (draft d) (take (cells s) t')
-    end ok = subst (λ (p : ℕ). Run rule s (tied_at p (ties x) ∷ h) (draft d) (take (cells s) t')) (spot d.shape u row column at)
-        (goes draft draft answer d ok (on rule s h (take (cells s) t) (take (cells s) t') run (Lent.all whole)))
-
--- what tie_sample ensures
-abbrev pub TieMet : Draft → Tile → ℕ → Sample → Result Draft Refusal → Tile → Type 0
-TieMet d t u x answer t' = record { same : SameDraft d answer; past : PastKept (cells d.shape) t t'; does : TiesSample d t u x answer t' }
-
-pub tie_met : EveryRunKeepsTheLaw → (d : Draft) (t : Tile) (u row column : ℕ) (x : Sample) (answer : Result Draft (Refused Draft)) (t' : Tile) → At d.shape u row column →
-    TieDoes d t row column (ties x) answer t' →
-    GoesOn (draft d) t draft draft (tied_at (place d.shape row column) (ties x)) answer t' → TieMet d t u x (plain (λ z. z) answer) t'
-tie_met law d t u row column x answer t' at does on =
-    let k = tie_past d t row column (ties x) answer t' does in
-    record { same = k.0; past = k.1; does = ties_up law d t u row column x answer t' at does on }
+-- where it is accepted, and then the tie refused or accepted
+pub put_and_tied : EveryRunKeepsTheLaw → (d : Draft) (t : Tile) (u row column : ℕ) (x : Sample) (d' : Draft) (t' : Tile) (answer : Result Draft (Refused Draft)) (t'' : Tile) → At d.shape u row column →
+    PutDoes d t row column x.reading x.class (Ok d') t' →
+    GoesOn (draft d) t draft draft (put_at (place d.shape row column) x.reading x.class) (Ok d') t' →
+    TieDoes d' t' row column (ties x) answer t'' →
+    GoesOn (draft d') t' draft draft (tied_at (place d'.shape row column) (ties x)) answer t'' → SampleMet d t u x (plain (λ z. z) answer) t''
+put_and_tied law d t u row column x d' t' answer t'' at does on =
+    let k = wrote_past (put_wrote d t row column x.reading x.class (Ok d') t' does) in
+    subst (λ (z : Draft). TieDoes z t' row column (ties x) answer t'' → GoesOn (draft z) t' draft draft (tied_at (place z.shape row column) (ties x)) answer t'' → SampleMet d t u x (plain (λ z. z) answer) t'') (sym k.0)
+    (λ tie next.
+    let m = wrote_past (tie_wrote d t' row column (ties x) answer t'' tie) in
+    record {
+      same = m.0;
+      past = past_more (cells d.shape) t t' t'' k.1 m.1;
+      does = λ rule lawful s h whole inside run.
+          unrefused (λ a.
+          ties_up law d t' u row column x answer t'' at tie next rule lawful s (put_at u x.reading x.class ∷ h) (omega (arith, k.1.long)) inside
+          (subst (λ (z : Draft). Run rule s (put_at u x.reading x.class ∷ h) (draft z) (take (cells s) t')) (sym (same_found a.answers) ∙ k.0) a.run))
+          (puts law d t u row column x (Ok d') t' at does on rule lawful s h whole inside run);
+    })
 
 -- ---- the survey that samples are
 

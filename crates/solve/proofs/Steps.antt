@@ -1,12 +1,11 @@
 -- The steps of solve, from the contracts of the calls.
 use Rattle.std.proofs.Common.{◌≡◌, ℕ, ◌+◌, ◌^◌, ◌<◌, ◌≤◌, ◌∷◌, ◌++◌, length, take, IsErrAnd, IfOk, Ok, Err, Result, sym, refl, ap, ◌∙◌, subst, ⊎_elim, arith}
 use Rattle.std.proofs.lemmas.List.{get_or-take}
-use Rattle.std.proofs.lemmas.Result.{err_from_is_err_and}
 use Rattle.std.proofs.lemmas.Bool.{cases_lt}
 use Rattle.limits.specs.Limits.{most_rows}
 use Rattle.limits.specs.declared.refusal.Refusal.{Refusal}
 use Rattle.limits.specs.Checking.{passed}
-use Rattle.limits.proofs.Outcomes.{either, mapped, followed, surely}
+use Rattle.limits.proofs.Outcomes.{either, mapped, followed, surely, broke, same_refusal}
 use Rattle.price.specs.Rules.{Rule, Lawful}
 use Rattle.theory.proofs.Locals.{lowest_same}
 use Rattle.tile.specs.declared.cell.Cell.{Cell}
@@ -38,17 +37,9 @@ pub goes : {S X : Type 0} {rule : Rule} {s : Shape} {h : History} (back : S → 
     Run rule s (added a answer ++ h) (next back on answer) r → Run rule s (a ∷ h) (on v) r
 goes {S} {X} {rule} {s} {h} back on {a} answer v {r} e run = subst (λ z. Run rule s (added a z ++ h) (next back on z) r) e run
 
--- what the exit of a `?` returns
-pub broke : {X : Type 0} (answer : Result X Refusal) (why : Refusal) → IsErrAnd answer (λ e. e ≡ why) → answer ≡ Err why
-broke answer why b = let p = err_from_is_err_and answer b in p.1 ∙ ap Err p.2
-
 -- what holds of the refusal holds of that exit
 pub carried : {X : Type 0} (P : Result X Refusal → Type 0) (answer : Result X Refusal) (why : Refusal) → IsErrAnd answer (λ e. e ≡ why) → P (Err why) → P answer
 carried P answer why b p = subst P (sym (broke answer why b)) p
-
--- a refusal of one step is one of solve
-pub same_refusal : {X Y : Type 0} (why e : Refusal) → ◌≡◌ {A = Result X Refusal} (Err why) (Err e) → ◌≡◌ {A = Result Y Refusal} (Err why) (Err e)
-same_refusal why e z = let same : why ≡ e = cc in ap Err same
 
 -- ---- start
 

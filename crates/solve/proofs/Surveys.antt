@@ -2,7 +2,7 @@
 use Rattle.std.proofs.Common.{◌≡◌, ℕ, ◌*◌, ◌≤◌, List, length, take, Ok, Err, Result, sym, refl, ◌∙◌, subst, ap₂, arith}
 use Rattle.limits.specs.Limits.{most_rows}
 use Rattle.limits.specs.declared.refusal.Refusal.{Refusal}
-use Rattle.limits.proofs.Outcomes.{mapped, followed, surely}
+use Rattle.limits.proofs.Outcomes.{mapped, followed, surely, same_refusal}
 use Rattle.limits.proofs.Each.{each_mapped}
 use Rattle.price.specs.Rules.{Rule, Lawful}
 use Rattle.tile.specs.declared.shape.Shape.{Shape}
@@ -16,7 +16,7 @@ use Rattle.filter.proofs.RunsKept.{not_both}
 use Rattle.solve.specs.declared.surveying.Sample.{Sample}
 use Rattle.solve.specs.Solving.{PastKept, RoundsChecked, Solved, SolvesRuns}
 use Rattle.solve.specs.Surveying.{sample, sampled, SampleChecked, Surveyed, WritesSamples, SamplesDo}
-use Rattle.solve.proofs.Steps.{same_refusal, started_shape}
+use Rattle.solve.proofs.Steps.{started_shape}
 use Rattle.solve.proofs.Past.{past_more, started_past, survey_past}
 use Rattle.solve.proofs.Samples.{SamplesMet}
 

@@ -57,16 +57,7 @@ pub record Drafted (rule : Rule) (s : Shape) (h : History) (answer : Result Draf
 abbrev pub FromDraft : Draft → Tile → ℕ → (Rule → Shape → History → Type 0) → Type 0
 FromDraft d t u Goal = (rule : Rule) → Lawful rule → (s : Shape) (h : History) → cells s ≤ length t → u < cells s → Run rule s h (draft d) (take (cells s) t) → Goal rule s h
 
--- the reading and class of one cell
-abbrev pub PutsSample : Draft → Tile → ℕ → Sample → Result Draft Refusal → Tile → Type 0
-PutsSample d t u x answer t' = FromDraft d t u (λ rule s h.
-    Checked 5 Reading (SoundReading s.top x.reading x.class) (λ e. answer ≡ Err e) (Drafted rule s (put_at u x.reading x.class ∷ h) answer (take (cells s) t')))
-
--- the ties of one cell
-abbrev pub TiesSample : Draft → Tile → ℕ → Sample → Result Draft Refusal → Tile → Type 0
-TiesSample d t u x answer t' = FromDraft d t u (λ rule s h. Checked 6 Tie (SoundTies s u (ties x)) (λ e. answer ≡ Err e) (Drafted rule s (tied_at u (ties x) ∷ h) answer (take (cells s) t')))
-
--- both
+-- the sample of one cell
 abbrev pub WritesSample : Draft → Tile → ℕ → Sample → Result Draft Refusal → Tile → Type 0
 WritesSample d t u x answer t' = FromDraft d t u (λ rule s h.
     SampleChecked s u x (λ e. answer ≡ Err e) (Drafted rule s (tied_at u (ties x) ∷ put_at u x.reading x.class ∷ h) answer (take (cells s) t')))

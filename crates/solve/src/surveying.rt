@@ -6,7 +6,7 @@ ghost use Rattle.std.specs.Prelude.{◌≡◌, ◌*◌, length, IfOk};
 ghost use Rattle.tile.specs.Shapes.{cells};
 ghost use Rattle.filter.specs.Calls.{KeptIfRefused};
 ghost use Rattle.solve.specs.Solving.{PastKept};
-ghost use Rattle.solve.specs.Surveying.{At, PutsSample, TiesSample, WritesSample, WritesSamples, SamplesDo};
+ghost use Rattle.solve.specs.Surveying.{At, WritesSample, WritesSamples, SamplesDo};
 
 use crate::solving::solve;
 use filter::{Draft, Level, start};
@@ -40,37 +40,7 @@ fn position(draft: &Draft, cell: usize) -> (usize, usize)
     (cell / columns, cell % columns)
 }
 
-// Puts a sample's reading and class into a cell.
-fn put_sample(
-    draft: Draft,
-    tile: &mut [Cell],
-    cell: usize,
-    sample: Sample,
-) -> Result<Draft, Refusal>
-    ensures same { IfOk result (λ z. z ≡ draft) }
-    ensures past { PastKept (cells draft.shape) tile.old tile.new }
-    ensures does { PutsSample draft tile.old cell sample result tile.new }
-{
-    let (row, column) = position(&draft, cell);
-    Ok(draft.put(tile, row, column, sample.reading, sample.class)?)
-}
-
-// Ties a cell as a sample says.
-fn tie_sample(
-    draft: Draft,
-    tile: &mut [Cell],
-    cell: usize,
-    sample: Sample,
-) -> Result<Draft, Refusal>
-    ensures same { IfOk result (λ z. z ≡ draft) }
-    ensures past { PastKept (cells draft.shape) tile.old tile.new }
-    ensures does { TiesSample draft tile.old cell sample result tile.new }
-{
-    let (row, column) = position(&draft, cell);
-    Ok(draft.tie(tile, row, column, sample.right, sample.down)?)
-}
-
-// Writes a sample into a cell.
+// Writes a sample into a cell: its reading and class, and its ties.
 fn write_sample(
     draft: Draft,
     tile: &mut [Cell],
@@ -81,8 +51,9 @@ fn write_sample(
     ensures past { PastKept (cells draft.shape) tile.old tile.new }
     ensures does { WritesSample draft tile.old cell sample result tile.new }
 {
-    let draft = put_sample(draft, tile, cell, sample)?;
-    tie_sample(draft, tile, cell, sample)
+    let (row, column) = position(&draft, cell);
+    let draft = draft.put(tile, row, column, sample.reading, sample.class)?;
+    Ok(draft.tie(tile, row, column, sample.right, sample.down)?)
 }
 
 // Writes a sample into each cell.

@@ -85,7 +85,7 @@ layout_stands letter s y f w e = record {
   columns = number_there f 7 s.columns _ (omega (arith, s.wide.1)) from_columns;
   top = number_there f 9 s.top _ (omega (arith, s.high.1)) from_top;
   readings_count = number_there f 11 (cells s) _ (omega (arith, few)) from_readings;
-  reading = λ u l. number_there f (reading_place 11 u) (y.reading u) _ (omega (arith, (w.readings u l).reading, s.high.1)) (reading_from u l).1;
+  reading = λ u l. number_there f (reading_place 11 u) (y.reading u) _ (omega (arith, (w.sound.readings u l).reading, s.high.1)) (reading_from u l).1;
   class = λ u l. byte_there f (reading_place 11 u + 2) (y.class u) _ (behind f (reading_place 11 u) (two (y.reading u)) _ (reading_from u l).1);
   ties_count = number_there f (ties_start s) (cells s) _ (omega (arith, few)) from_ties;
   tie = tie;
@@ -138,9 +138,9 @@ layout_stands letter s y f w e = record {
     from_end = entries_behind f (ties_entry y) (ties_place (ties_start s)) (cells s) [] (λ v. omega arith) from_tie
 
     tie : (u : ℕ) → u < cells s → (d : Side) → tie_numbers f (ties_place (ties_start s) u) d ≡ y.tie u d
-    tie u l Rightward = number_there f (ties_place (ties_start s) u) (y.tie u Rightward) _ (omega (arith, (w.ties u l Rightward).few)) (tie_from u l).1
+    tie u l Rightward = number_there f (ties_place (ties_start s) u) (y.tie u Rightward) _ (omega (arith, (w.sound.ties u l Rightward).few)) (tie_from u l).1
     tie u l Downward =
-        number_there f (ties_place (ties_start s) u + 2) (y.tie u Downward) _ (omega (arith, (w.ties u l Downward).few))
+        number_there f (ties_place (ties_start s) u + 2) (y.tie u Downward) _ (omega (arith, (w.sound.ties u l Downward).few))
         (behind f (ties_place (ties_start s) u) (two (y.tie u Rightward)) _ (tie_from u l).1)
 
 -- so it has no fault
@@ -168,14 +168,14 @@ layout_whole letter s y f n w enough k = record {
       count = k.readings_count;
       fit = λ u l. record {
         whole = omega (arith, k.long);
-        sound = subst (λ v. SoundReading s.top v (class_at f (reading_place 11 u))) (sym (k.reading u l)) (subst (λ q. SoundReading s.top (y.reading u) q) (sym (k.class u l)) (w.readings u l));
+        sound = subst (λ v. SoundReading s.top v (class_at f (reading_place 11 u))) (sym (k.reading u l)) (subst (λ q. SoundReading s.top (y.reading u) q) (sym (k.class u l)) (w.sound.readings u l));
       };
     };
     ties = record {
       count = k.ties_count;
       fit = λ u l. record {
         whole = omega (arith, k.long);
-        sound = λ d. subst (λ v. SoundTie s u d v) (sym (k.tie u l d)) (w.ties u l d);
+        sound = λ d. subst (λ v. SoundTie s u d v) (sym (k.tie u l d)) (w.sound.ties u l d);
       };
     };
     ends = k.ends;

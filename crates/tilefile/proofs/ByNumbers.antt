@@ -45,16 +45,20 @@ layouts = record {
   it_is_such_a_layout = record {
     writable = record {
       few_rows = omega arith;
-      readings = both (λ u. SoundReading 10 (said.reading u) (said.class u)) (record { reading = omega arith; class = omega arith }) (record { reading = omega arith; class = omega arith });
-      ties = both (λ u. SoundTies two_in_a_row u (said.tie u)) (first_ties (said.tie 0) (omega arith) refl) (second_ties (said.tie 1) refl refl);
+      sound = record {
+        readings = both (λ u. SoundReading 10 (said.reading u) (said.class u)) (record { reading = omega arith; class = omega arith }) (record { reading = omega arith; class = omega arith });
+        ties = both (λ u. SoundTies two_in_a_row u (said.tie u)) (first_ties (said.tie 0) (omega arith) refl) (second_ties (said.tie 1) refl refl);
+      };
     };
     bytes = refl;
   };
   another_letter_is_not = λ l. omega (arith, ap (λ (f : List ℕ). slice_index_or f 2 0) l.bytes);
   may_be_written = record {
     few_rows = omega arith;
-    readings = both (λ u. SoundReading 10 ((survey pair).reading u) ((survey pair).class u)) (record { reading = omega arith; class = omega arith }) (record { reading = omega arith; class = omega arith });
-    ties = both (λ u. SoundTies two_in_a_row u ((survey pair).tie u)) (first_ties ((survey pair).tie 0) (omega arith) refl) (second_ties ((survey pair).tie 1) refl refl);
+    sound = record {
+      readings = both (λ u. SoundReading 10 ((survey pair).reading u) ((survey pair).class u)) (record { reading = omega arith; class = omega arith }) (record { reading = omega arith; class = omega arith });
+      ties = both (λ u. SoundTies two_in_a_row u ((survey pair).tie u)) (first_ties ((survey pair).tie 0) (omega arith) refl) (second_ties ((survey pair).tie 1) refl refl);
+    };
   };
   reading_of_the_second_cell = refl;
   class_of_the_second_cell = refl;

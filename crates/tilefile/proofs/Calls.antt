@@ -9,7 +9,7 @@ use Rattle.tile.specs.declared.cell.Cell.{Cell}
 use Rattle.tile.specs.declared.side.Side.{Side}
 use Rattle.tile.specs.Shapes.{cells}
 use Rattle.tile.specs.Tiles.{Tile, Survey, cell, blank}
-use Rattle.passes.specs.Soundness.{SoundReading, SoundTies}
+use Rattle.passes.specs.Soundness.{SoundReading, SoundTies, SoundSurvey}
 use Rattle.passes.specs.Writing.{with_reading, with_ties, fresh, rewritten}
 use Rattle.passes.proofs.Rewrites.{rewritten_length, rewritten_more, cell_past}
 use Rattle.filter.specs.declared.states.Draft.{Draft}
@@ -20,7 +20,7 @@ use Rattle.filter.proofs.Keeps.{every_run}
 use Rattle.filter.proofs.Places.{place_of, inside_of}
 use Rattle.filter.proofs.RunsKept.{sound_slice}
 use Rattle.tilefile.specs.Files.{survey_calls}
-use Rattle.tilefile.specs.Survey.{Writable, cell_record}
+use Rattle.tilefile.specs.Survey.{cell_record}
 
 -- records written anew twice
 pub rewritten_twice : (n : ℕ) (f g : ℕ → Cell) (t : Tile) → rewritten n g (rewritten n f t) ≡ rewritten n g t
@@ -72,7 +72,7 @@ both_written g t u v q top w lt first made =
     let new : cell (set l u a) u ≡ with_reading v q (fresh top) = get_or-set_same l u a blank long ∙ ap (with_reading v q) old in
     set-set l u a (with_ties w (cell (set l u a) u)) ∙ rewritten_more g t u (with_ties w (cell (set l u a) u)) lt (ap (with_ties w) new ∙ sym made)
 
-pub laid_run : (rule : Rule) → Lawful rule → (d : Draft) (y : Survey) (t : Tile) → cells d.shape ≤ length t → ((u : ℕ) → u < cells d.shape → cell t u ≡ fresh d.shape.top) → Writable d.shape y →
+pub laid_run : (rule : Rule) → Lawful rule → (d : Draft) (y : Survey) (t : Tile) → cells d.shape ≤ length t → ((u : ℕ) → u < cells d.shape → cell t u ≡ fresh d.shape.top) → SoundSurvey d.shape y →
     Run rule d.shape [] (draft d) (take (cells d.shape) t) → (u : ℕ) → u ≤ cells d.shape → Run rule d.shape (survey_calls y u) (draft d) (take (cells d.shape) (rewritten u (cell_record d.shape.top y) t))
 laid_run rule lawful d y t whole first sound run zero le = run
 laid_run rule lawful d y t whole first sound run (suc u) le =

@@ -1,8 +1,7 @@
 -- The entries of a section, read one after the other.
-use Rattle.std.proofs.Common.{◌≡◌, ℕ, ◌+◌, ◌<◌, ◌≤◌, List, length, Result, Ok, Err, IsErrAnd, IsErrOf, sym, ap, ◌∙◌, subst, arith, below_more}
-use Rattle.std.proofs.lemmas.Result.{err_from_is_err_and}
+use Rattle.std.proofs.Common.{◌≡◌, ℕ, ◌+◌, ◌<◌, ◌≤◌, List, length, Result, Ok, Err, IsErrOf, sym, ◌∙◌, subst, arith, below_more}
 use Rattle.limits.specs.Checking.{passed, refused}
-use Rattle.limits.proofs.Outcomes.{mapped, none_found, unrefused}
+use Rattle.limits.proofs.Outcomes.{mapped, none_found, unrefused, same_refusal}
 use Rattle.limits.proofs.Each.{each_passed, each_refused}
 use Rattle.tile.specs.declared.shape.Shape.{Shape}
 use Rattle.passes.specs.Soundness.{SoundReading, SoundTies}
@@ -36,14 +35,10 @@ pub record TiesFar (s : Shape) (f : List ℕ) (p u place : ℕ) : Type 0 where
 
 -- a fault that was found is the answer
 pub carried : {X Y : Type 0} (answer : Result Y Fault) (why e : Fault) → answer ≡ Err why → ◌≡◌ {A = Result X Fault} (Err why) (Err e) → answer ≡ Err e
-carried answer why e same z = let here : why ≡ e = cc z in same ∙ ap Err here
+carried answer why e same z = same ∙ same_refusal why e z
 
 pub no_rest : {G X : Type 0} {x : X} (why : Fault) → ◌≡◌ {A = Result X Fault} (Err why) (Ok x) → G
 no_rest why z = none_found why (sym z)
-
--- the exit of a `?`
-pub broke : {X : Type 0} (answer : Result X Fault) (why : Fault) → IsErrAnd answer (λ e. e ≡ why) → answer ≡ Err why
-broke answer why b = let p = err_from_is_err_and answer b in p.1 ∙ ap Err p.2
 
 -- a count was as it has to be
 pub counted : {Rest Rest' : Type 0} {Left : Fault → Type 0} (f : List ℕ) (s : Section) (p n : ℕ) → (Rest → Rest') → CountChecked f s p n (λ e. ◌≡◌ {A = Result (Unit {0}) Fault} (Ok tt) (Err e)) Rest → CountChecked f s p n Left Rest'

@@ -5,6 +5,7 @@ use Rattle.price.specs.Rules.{Rule}
 use Rattle.tile.specs.declared.shape.Shape.{Shape}
 use Rattle.tile.specs.Shapes.{cells}
 use Rattle.tile.specs.Tiles.{Tile, Survey, cell}
+use Rattle.passes.specs.Soundness.{SoundSurvey}
 use Rattle.passes.specs.Writing.{fresh, rewritten}
 use Rattle.passes.proofs.Rewrites.{rewritten_length, cell_rewritten}
 use Rattle.filter.specs.declared.states.Draft.{Draft}
@@ -25,7 +26,7 @@ filled s y t t' t'' d whole shape first second = passed whole (record {
 pub fill_led : (s : Shape) (y : Survey) (t t' t'' : Tile) (d : Draft) → Writable s y → cells s ≤ length t → d.shape ≡ s → t' ≡ rewritten (cells s) (λ _. fresh s.top) t → t'' ≡ rewritten (cells s) (cell_record s.top y) t' →
     ((rule : Rule) → Run rule d.shape [] (draft d) (take (cells d.shape) t')) → LedTo d y t''
 fill_led s y t t' t'' d writable whole shape first second begins rule lawful =
-    subst (λ z. Run rule d.shape (survey_calls y (cells d.shape)) (draft d) (take (cells d.shape) z)) (sym written) (laid_run rule lawful d y t' long fresh_first (subst (λ (x : Shape). Writable x y) (sym shape) writable) (begins rule) (cells d.shape) (omega arith))
+    subst (λ z. Run rule d.shape (survey_calls y (cells d.shape)) (draft d) (take (cells d.shape) z)) (sym written) (laid_run rule lawful d y t' long fresh_first (subst (λ (x : Shape). SoundSurvey x y) (sym shape) writable.sound) (begins rule) (cells d.shape) (omega arith))
   where
     same : cells d.shape ≡ cells s
     same = ap cells shape

@@ -133,8 +133,10 @@ tie_filed s f u Downward =
 pub accepts : (s : Shape) (f : List ℕ) → s.rows ≤ most_rows → Entries s f → Writable s (file_survey s f)
 accepts s f few w = record {
   few_rows = few;
-  readings = λ u l. subst (λ v. SoundReading s.top v ((file_survey s f).class u)) (sym (reading_filed s f u)) (subst (λ q. SoundReading s.top (number_at f (reading_place 11 u)) q) (sym (class_filed s f u)) (w.readings.fit u l).sound);
-  ties = λ u l d. subst (λ k. SoundTie s u d k) (sym (tie_filed s f u d)) ((w.ties.fit u l).sound d);
+  sound = record {
+    readings = λ u l. subst (λ v. SoundReading s.top v ((file_survey s f).class u)) (sym (reading_filed s f u)) (subst (λ q. SoundReading s.top (number_at f (reading_place 11 u)) q) (sym (class_filed s f u)) (w.readings.fit u l).sound);
+    ties = λ u l d. subst (λ k. SoundTie s u d k) (sym (tie_filed s f u d)) ((w.ties.fit u l).sound d);
+  };
 }
 
 -- the sections are as long as their entries ask

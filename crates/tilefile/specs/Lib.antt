@@ -1,5 +1,6 @@
 pub mod Faults
 pub mod Letters
+pub mod Named
 pub mod Bytes
 pub mod Sections
 pub mod Survey

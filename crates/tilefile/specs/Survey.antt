@@ -1,12 +1,12 @@
 -- What the sections Readings and Ties say, and the records that say the same.
-use Rattle.std.specs.Prelude.{ℕ, ◌<◌, ◌≤◌, List, length}
+use Rattle.std.specs.Prelude.{ℕ, ◌≤◌, List, length}
 use Rattle.limits.specs.Limits.{most_rows}
 use Rattle.tile.specs.declared.cell.Cell.{Cell}
 use Rattle.tile.specs.declared.shape.Shape.{Shape}
 use Rattle.tile.specs.declared.side.Side.{Side}
 use Rattle.tile.specs.Shapes.{cells}
 use Rattle.tile.specs.Tiles.{Survey}
-use Rattle.passes.specs.Soundness.{SoundReading, SoundTies}
+use Rattle.passes.specs.Soundness.{SoundSurvey}
 use Rattle.passes.specs.Writing.{with_reading, with_ties, fresh}
 use Rattle.tilefile.specs.Bytes.{number_at}
 use Rattle.tilefile.specs.Sections.{reading_place, class_at, ties_place, tie_numbers}
@@ -27,8 +27,7 @@ entries_survey readings ties = record {
 -- what a file may say: the shape of a tile, and for each cell what put and tie accept
 pub record Writable (s : Shape) (y : Survey) : Type 0 where
   pub few_rows : s.rows ≤ most_rows
-  pub readings : (u : ℕ) → u < cells s → SoundReading s.top (y.reading u) (y.class u)
-  pub ties : (u : ℕ) → u < cells s → SoundTies s u (y.tie u)
+  pub sound : SoundSurvey s y
 
 -- the record of a cell as start, a put and a tie of its survey leave it
 abbrev pub surveyed_record : (top reading class : ℕ) → (Side → ℕ) → Cell

@@ -1,9 +1,9 @@
 // The second pass over a file: what it says, written into the records.
-ghost use Rattle.std.specs.Prelude.{◌≡◌, ◌+◌, ◌<◌, ◌≤◌, length};
+ghost use Rattle.std.specs.Prelude.{◌≡◌, ◌+◌, ◌≤◌, length};
 ghost use Rattle.tile.specs.Shapes.{cells};
 ghost use Rattle.passes.specs.Writing.{weights, rewritten};
 ghost use Rattle.tilefile.specs.Bytes.{number_at};
-ghost use Rattle.tilefile.specs.Sections.{class_at, reading_place, tie_numbers, ties_place};
+ghost use Rattle.tilefile.specs.Sections.{reading_place, ties_place};
 ghost use Rattle.tilefile.specs.Survey.{surveyed_record, entries_survey, cell_record};
 
 use tile::{Cell, Shape};

@@ -8,6 +8,7 @@ mod laying;
 pub mod letter;
 mod reader;
 mod reading;
+pub mod rule;
 #[cfg(test)]
 mod tests;
 
@@ -15,3 +16,4 @@ pub use contents::Contents;
 pub use fault::{Fault, Flaw, Section};
 pub use letter::Letter;
 pub use reading::read_tile;
+pub use rule::LetterRule;

@@ -1,6 +1,5 @@
 // The calls that make and fill a draft.
-ghost use Rattle.std.specs.Prelude.{◌≡◌, ◌≤◌};
-ghost use Rattle.limits.specs.Limits.{most_rows};
+ghost use Rattle.std.specs.Prelude.{◌≡◌};
 ghost use Rattle.passes.specs.Writing.{weights};
 ghost use Rattle.filter.specs.Checks.{place};
 ghost use Rattle.filter.specs.Calls.{StartDoes, PutDoes, TieDoes, BeginDoes};

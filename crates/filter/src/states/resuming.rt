@@ -1,5 +1,5 @@
 // States made again from their numbers, which a host may have kept.
-ghost use Rattle.std.specs.Prelude.{◌≡◌, ◌≤◌, ◌↔◌, IsTrue};
+ghost use Rattle.std.specs.Prelude.{◌≤◌, ◌↔◌, IsTrue};
 ghost use Rattle.limits.specs.Limits.{most_rounds};
 ghost use Rattle.filter.specs.Resuming.{DraftResumed, RoundingResumed, LevelResumed, ResumesItself};
 ghost use Rattle.filter.specs.Runs.{draft, rounding, level};

@@ -1,12 +1,11 @@
 // The calls while rounds are done.
 ghost use Rattle.std.specs.Prelude.{◌≡◌, ◌+◌, ◌<◌, ◌≤◌, length, IfOk};
-ghost use Rattle.limits.specs.Limits.{most_rows, most_rounds};
+ghost use Rattle.limits.specs.Limits.{most_rounds};
 ghost use Rattle.tile.specs.Shapes.{cells};
 ghost use Rattle.tile.specs.Tiles.{cell};
 ghost use Rattle.passes.specs.Soundness.{Sound};
 ghost use Rattle.passes.specs.Writing.{reset, rewritten};
-ghost use Rattle.passes.specs.Rounds.{charged, Chargeable, Narrowable};
-ghost use Rattle.filter.specs.Checks.{TileChecked};
+ghost use Rattle.passes.specs.Rounds.{Chargeable};
 ghost use Rattle.filter.specs.Calls.{HalvedBy, RoundDoes, FinishDoes, ReopenDoes, MarksSmallest, SurveyKept, KeptIfRefused};
 ghost use Rattle.filter.specs.Runs.{draft, rounding, level, rounded, finished, reopened, GoesOn, GoesOnUnder};
 ghost use Rattle.filter.specs.Laws.{EveryRunKeepsTheLaw};
@@ -17,7 +16,7 @@ use crate::states::{Draft, Level, Rounding};
 use flow::{CutMaker, run_cut};
 use passes::{charge, narrow, reset};
 use price::PriceRule;
-use tile::{Cell, Refusal, Shape};
+use tile::{Cell, Shape};
 
 // Charges the tile, lets the maker cut it, and narrows every bracket.
 #[tactic(auto, using(crate::proofs::Narrowing::cut_narrowable))]

@@ -1,5 +1,5 @@
 // The sections of a file, read one after the other. Each answers what it says, and the rest of the file.
-ghost use Rattle.std.specs.Prelude.{◌≡◌, ℕ, ◌+◌, ◌<◌, length, drop, slice_index_or, IsErrOf, IsOkAnd};
+ghost use Rattle.std.specs.Prelude.{◌≡◌, ℕ, ◌+◌, ◌<◌, drop, slice_index_or, IsErrOf, IsOkAnd};
 ghost use Rattle.limits.specs.Limits.{most_rows};
 ghost use Rattle.tile.specs.Shapes.{cells, MadeOf};
 ghost use Rattle.filter.specs.Checks.{StartChecked};

@@ -13,11 +13,11 @@ returns-in_err-_rounding-clause-does c =
     let e = c.in_err-_rounding.field-0.0 in
     let k = c.in_err-_rounding.ensures in
     carried (λ z. BeginAnswers c.args.draft c.args.tile.now z) c.from_residual-in_err-_rounding.result e.why c.from_residual-in_err-_rounding.ensures.1
-    (begin_met c.args.draft c.in_ok-state.field-0 c.args.tile.now (Err e) (record { took = c.in_ok-state.ensures.does; itself = c.in_ok-state.ensures.itself }) k.does k.goes_on)
+    (begin_met c.args.draft c.in_ok-state.field-0 c.args.tile.now (Err e) c.in_ok-state.ensures k.does k.goes_on)
 
 pub returns-clause-does : goal.returns-clause-does
 returns-clause-does c =
     let x = c.in_ok-_rounding._rounding in
     let k = c.in_ok-_rounding.ensures in
-    subst (λ m. BeginAnswers c.args.draft c.args.tile.now (Ok m)) (begun_numbers c.args.draft c.in_ok-state.field-0 c.args.tile.now x (record { took = c.in_ok-state.ensures.does; itself = c.in_ok-state.ensures.itself }) k.does ∙ sym c.rounding.ensures)
-    (begin_met c.args.draft c.in_ok-state.field-0 c.args.tile.now (Ok x) (record { took = c.in_ok-state.ensures.does; itself = c.in_ok-state.ensures.itself }) k.does k.goes_on)
+    subst (λ m. BeginAnswers c.args.draft c.args.tile.now (Ok m)) (begun_numbers c.args.draft c.in_ok-state.field-0 c.args.tile.now x c.in_ok-state.ensures k.does ∙ sym c.rounding.ensures)
+    (begin_met c.args.draft c.in_ok-state.field-0 c.args.tile.now (Ok x) c.in_ok-state.ensures k.does k.goes_on)

@@ -14,10 +14,10 @@ returns-in_err-_draft-clause-does c =
     let a = c.args in
     let k = c.in_err-_draft.ensures in
     carried (λ z. PutAnswers a.draft a.tile.now a.row a.column a.reading a.class z c.put.new.tile) c.from_residual-in_err-_draft.result e.why c.from_residual-in_err-_draft.ensures.1
-    (put_met a.draft c.in_ok-state.field-0 a.tile.now a.row a.column a.reading a.class (Err e) c.put.new.tile (record { took = c.in_ok-state.ensures.does; itself = c.in_ok-state.ensures.itself }) k.does k.goes_on)
+    (put_met a.draft c.in_ok-state.field-0 a.tile.now a.row a.column a.reading a.class (Err e) c.put.new.tile c.in_ok-state.ensures k.does k.goes_on)
 
 pub returns-clause-does : goal.returns-clause-does
 returns-clause-does c =
     let a = c.args in
     let k = c.in_ok-_draft.ensures in
-    put_met a.draft c.in_ok-state.field-0 a.tile.now a.row a.column a.reading a.class (Ok c.in_ok-_draft._draft) c.put.new.tile (record { took = c.in_ok-state.ensures.does; itself = c.in_ok-state.ensures.itself }) k.does k.goes_on
+    put_met a.draft c.in_ok-state.field-0 a.tile.now a.row a.column a.reading a.class (Ok c.in_ok-_draft._draft) c.put.new.tile c.in_ok-state.ensures k.does k.goes_on

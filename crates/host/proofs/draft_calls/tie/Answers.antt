@@ -15,10 +15,10 @@ returns-in_err-_draft-clause-does c =
     let a = c.args in
     let k = c.in_err-_draft.ensures in
     carried (λ z. TieAnswers a.draft a.tile.now a.row a.column (weights a.right a.down) z c.tie.new.tile) c.from_residual-in_err-_draft.result e.why c.from_residual-in_err-_draft.ensures.1
-    (tie_met a.draft c.in_ok-state.field-0 a.tile.now a.row a.column (weights a.right a.down) (Err e) c.tie.new.tile (record { took = c.in_ok-state.ensures.does; itself = c.in_ok-state.ensures.itself }) k.does k.goes_on)
+    (tie_met a.draft c.in_ok-state.field-0 a.tile.now a.row a.column (weights a.right a.down) (Err e) c.tie.new.tile c.in_ok-state.ensures k.does k.goes_on)
 
 pub returns-clause-does : goal.returns-clause-does
 returns-clause-does c =
     let a = c.args in
     let k = c.in_ok-_draft.ensures in
-    tie_met a.draft c.in_ok-state.field-0 a.tile.now a.row a.column (weights a.right a.down) (Ok c.in_ok-_draft._draft) c.tie.new.tile (record { took = c.in_ok-state.ensures.does; itself = c.in_ok-state.ensures.itself }) k.does k.goes_on
+    tie_met a.draft c.in_ok-state.field-0 a.tile.now a.row a.column (weights a.right a.down) (Ok c.in_ok-_draft._draft) c.tie.new.tile c.in_ok-state.ensures k.does k.goes_on

@@ -13,11 +13,11 @@ returns-in_err-_level-clause-does c =
     let e = c.in_err-_level.field-0.0 in
     let k = c.in_err-_level.ensures in
     carried (λ z. FinishAnswers c.args.rounding c.args.tile.now z) c.from_residual-in_err-_level.result e.why c.from_residual-in_err-_level.ensures.1
-    (finish_met c.args.rounding c.in_ok-state.field-0 c.args.tile.now (Err e) (record { took = c.in_ok-state.ensures.does; itself = c.in_ok-state.ensures.itself }) k.does k.goes_on)
+    (finish_met c.args.rounding c.in_ok-state.field-0 c.args.tile.now (Err e) c.in_ok-state.ensures k.does k.goes_on)
 
 pub returns-clause-does : goal.returns-clause-does
 returns-clause-does c =
     let x = c.in_ok-_level._level in
     let k = c.in_ok-_level.ensures in
-    subst (λ m. FinishAnswers c.args.rounding c.args.tile.now (Ok m)) (finish_numbers c.args.rounding c.in_ok-state.field-0 c.args.tile.now x (record { took = c.in_ok-state.ensures.does; itself = c.in_ok-state.ensures.itself }) k.does ∙ sym c.level.ensures)
-    (finish_met c.args.rounding c.in_ok-state.field-0 c.args.tile.now (Ok x) (record { took = c.in_ok-state.ensures.does; itself = c.in_ok-state.ensures.itself }) k.does k.goes_on)
+    subst (λ m. FinishAnswers c.args.rounding c.args.tile.now (Ok m)) (finish_numbers c.args.rounding c.in_ok-state.field-0 c.args.tile.now x c.in_ok-state.ensures k.does ∙ sym c.level.ensures)
+    (finish_met c.args.rounding c.in_ok-state.field-0 c.args.tile.now (Ok x) c.in_ok-state.ensures k.does k.goes_on)

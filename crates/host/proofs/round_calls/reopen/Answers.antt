@@ -13,11 +13,11 @@ returns-in_err-_draft-clause-does c =
     let e = c.in_err-_draft.field-0.0 in
     let k = c.in_err-_draft.ensures in
     carried (λ z. ReopenAnswers c.args.rounding c.args.tile.now z c.reopen.new.tile) c.from_residual-in_err-_draft.result e.why c.from_residual-in_err-_draft.ensures.1
-    (reopen_met c.args.rounding c.in_ok-state.field-0 c.args.tile.now (Err e) c.reopen.new.tile (record { took = c.in_ok-state.ensures.does; itself = c.in_ok-state.ensures.itself }) k.does k.goes_on)
+    (reopen_met c.args.rounding c.in_ok-state.field-0 c.args.tile.now (Err e) c.reopen.new.tile c.in_ok-state.ensures k.does k.goes_on)
 
 pub returns-clause-does : goal.returns-clause-does
 returns-clause-does c =
     let x = c.in_ok-_draft._draft in
     let k = c.in_ok-_draft.ensures in
-    subst (λ m. ReopenAnswers c.args.rounding c.args.tile.now (Ok m) c.reopen.new.tile) (reopen_numbers c.args.rounding c.in_ok-state.field-0 c.args.tile.now x c.reopen.new.tile (record { took = c.in_ok-state.ensures.does; itself = c.in_ok-state.ensures.itself }) k.does ∙ sym c.draft.ensures)
-    (reopen_met c.args.rounding c.in_ok-state.field-0 c.args.tile.now (Ok x) c.reopen.new.tile (record { took = c.in_ok-state.ensures.does; itself = c.in_ok-state.ensures.itself }) k.does k.goes_on)
+    subst (λ m. ReopenAnswers c.args.rounding c.args.tile.now (Ok m) c.reopen.new.tile) (reopen_numbers c.args.rounding c.in_ok-state.field-0 c.args.tile.now x c.reopen.new.tile c.in_ok-state.ensures k.does ∙ sym c.draft.ensures)
+    (reopen_met c.args.rounding c.in_ok-state.field-0 c.args.tile.now (Ok x) c.reopen.new.tile c.in_ok-state.ensures k.does k.goes_on)

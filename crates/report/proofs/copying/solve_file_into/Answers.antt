@@ -1,27 +1,25 @@
-use Rattle.std.proofs.Common.{length, Err, ap, ◌∙◌, arith}
-use Rattle.std.proofs.lemmas.Result.{err_from_is_err_and}
+use Rattle.std.proofs.Common.{length, ap, arith}
+use Rattle.limits.proofs.Outcomes.{broke}
 use Rattle.tile.specs.Shapes.{cells}
 use Rattle.tilefile.proofs.Found.{contents_enough}
+use Rattle.report.specs.declared.refusing.FileRefusal.TheVariants.{File, Call}
 use Rattle.report.proofs.FiledInto.{into_faulty, into_unplaced, into_cramped, into_solved}
 use Rattle.report.proofs.copying.solve_file_into.Goals as goal
 
 pub returns-in_err-contents-clause-does : goal.returns-in_err-contents-clause-does
 returns-in_err-contents-clause-does g c =
-    let p = err_from_is_err_and c.from_residual.result c.from_residual.ensures.1 in
-    into_faulty c.args.bytes.now c.args.tile.now (length c.args.entries.now) c.args.heights.now c.in_err-contents.field-0.0 c.from_residual.result (p.1 ∙ ap Err p.2) c.in_err-contents.ensures
+    into_faulty c.args.bytes.now c.args.tile.now (length c.args.entries.now) c.args.heights.now c.in_err-contents.field-0.0 c.from_residual.result (broke c.from_residual.result (File c.in_err-contents.field-0.0) c.from_residual.ensures.1) c.in_err-contents.ensures
 
 pub returns-in_err-check_places-clause-does : goal.returns-in_err-check_places-clause-does
 returns-in_err-check_places-clause-does g c =
     let x = c.in_ok-contents.contents in
-    let p = err_from_is_err_and c.from_residual-in_err-check_places.result c.from_residual-in_err-check_places.ensures.1 in
-    into_unplaced c.args.bytes.now c.args.tile.now (length c.args.entries.now) c.args.heights.now x c.in_err-check_places.field-0.0 c.from_residual-in_err-check_places.result (p.1 ∙ ap Err p.2)
+    into_unplaced c.args.bytes.now c.args.tile.now (length c.args.entries.now) c.args.heights.now x c.in_err-check_places.field-0.0 c.from_residual-in_err-check_places.result (broke c.from_residual-in_err-check_places.result (Call c.in_err-check_places.field-0.0) c.from_residual-in_err-check_places.ensures.1)
     (rw c.shape.ensures at c.in_err-check_places.ensures) c.in_ok-contents.ensures
 
 pub returns-in_err-check_room-clause-does : goal.returns-in_err-check_room-clause-does
 returns-in_err-check_room-clause-does g c =
     let x = c.in_ok-contents.contents in
-    let p = err_from_is_err_and c.from_residual-in_err-check_room.result c.from_residual-in_err-check_room.ensures.1 in
-    into_cramped c.args.bytes.now c.args.tile.now (length c.args.entries.now) c.args.heights.now x c.in_err-check_room.field-0.0 c.from_residual-in_err-check_room.result (p.1 ∙ ap Err p.2)
+    into_cramped c.args.bytes.now c.args.tile.now (length c.args.entries.now) c.args.heights.now x c.in_err-check_room.field-0.0 c.from_residual-in_err-check_room.result (broke c.from_residual-in_err-check_room.result (Call c.in_err-check_room.field-0.0) c.from_residual-in_err-check_room.ensures.1)
     (rw c.shape.ensures at c.in_ok-check_places.ensures) (rw c.shape-2.ensures at c.in_err-check_room.ensures) c.in_ok-contents.ensures
 
 pub solve_by_letter-solution-requires-clause-records : goal.solve_by_letter-solution-requires-clause-records

@@ -1,20 +1,18 @@
-use Rattle.std.proofs.Common.{length, Err, ap, ◌∙◌}
-use Rattle.std.proofs.lemmas.Result.{err_from_is_err_and}
-use Rattle.tile.specs.Shapes.{cells}
+use Rattle.std.proofs.Common.{length}
+use Rattle.limits.proofs.Outcomes.{broke}
 use Rattle.tilefile.proofs.Found.{contents_enough}
-use Rattle.report.proofs.Filed.{file_faulty, file_cramped, room_found, file_solved}
+use Rattle.report.specs.declared.refusing.FileRefusal.TheVariants.{File, Call}
+use Rattle.report.proofs.Filed.{met, file_faulty, file_cramped, file_solved}
 use Rattle.report.proofs.solving.solve_file.Goals as goal
 
 pub returns-in_err-contents-clause-does : goal.returns-in_err-contents-clause-does
 returns-in_err-contents-clause-does g c =
-    let p = err_from_is_err_and c.from_residual.result c.from_residual.ensures.1 in
-    file_faulty c.args.bytes.now c.args.tile.now (length c.args.entries.now) c.in_err-contents.field-0.0 c.from_residual.result (p.1 ∙ ap Err p.2) c.in_err-contents.ensures
+    file_faulty c.args.bytes.now c.args.tile.now (length c.args.entries.now) c.in_err-contents.field-0.0 c.from_residual.result (broke c.from_residual.result (File c.in_err-contents.field-0.0) c.from_residual.ensures.1) c.in_err-contents.ensures
 
 pub returns-in_err-check_room-clause-does : goal.returns-in_err-check_room-clause-does
 returns-in_err-check_room-clause-does g c =
     let x = c.in_ok-contents.contents in
-    let p = err_from_is_err_and c.from_residual-in_err-check_room.result c.from_residual-in_err-check_room.ensures.1 in
-    file_cramped c.args.bytes.now c.args.tile.now (length c.args.entries.now) x c.in_err-check_room.field-0.0 c.from_residual-in_err-check_room.result (p.1 ∙ ap Err p.2)
+    file_cramped c.args.bytes.now c.args.tile.now (length c.args.entries.now) x c.in_err-check_room.field-0.0 c.from_residual-in_err-check_room.result (broke c.from_residual-in_err-check_room.result (Call c.in_err-check_room.field-0.0) c.from_residual-in_err-check_room.ensures.1)
     (rw c.shape.ensures at c.in_err-check_room.ensures) c.in_ok-contents.ensures
 
 pub solve_by_letter-requires-clause-records : goal.solve_by_letter-requires-clause-records
@@ -23,5 +21,5 @@ solve_by_letter-requires-clause-records g c = contents_enough c.args.bytes.now (
 pub returns-clause-does : goal.returns-clause-does
 returns-clause-does g c =
     let x = c.in_ok-contents.contents in
-    file_solved c.args.bytes.now c.args.tile.now (length c.args.entries.now) x c.solve_by_letter.result c.solve_by_letter.new.tile (room_found (length c.args.entries.now) (cells x.shape) (rw c.shape.ensures at c.in_ok-check_room.ensures))
+    file_solved c.args.bytes.now c.args.tile.now (length c.args.entries.now) x c.solve_by_letter.result c.solve_by_letter.new.tile (met (rw c.shape.ensures at c.in_ok-check_room.ensures))
     c.in_ok-contents.ensures c.solve_by_letter.ensures.solved c.solve_by_letter.ensures.kept

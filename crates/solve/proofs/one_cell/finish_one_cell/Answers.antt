@@ -1,5 +1,5 @@
 use Rattle.std.proofs.Common.{length}
-use Rattle.solve.proofs.Steps.{broke}
+use Rattle.limits.proofs.Outcomes.{broke}
 use Rattle.solve.proofs.OneCell.{one_refused, one_finished}
 use Rattle.solve.proofs.one_cell.finish_one_cell.Goals as goal
 

@@ -1,5 +1,6 @@
 use Rattle.std.proofs.Common.{length, arith}
-use Rattle.solve.proofs.Steps.{not_begun, ahead_of, behind_of, rounds_refused, solved, broke}
+use Rattle.limits.proofs.Outcomes.{broke}
+use Rattle.solve.proofs.Steps.{not_begun, ahead_of, behind_of, rounds_refused, solved}
 use Rattle.solve.proofs.solving.solve.Goals as goal
 
 pub returns-in_err-rounding : goal.returns-in_err-rounding

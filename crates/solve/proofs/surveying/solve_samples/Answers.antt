@@ -1,5 +1,5 @@
 use Rattle.std.proofs.Common.{length}
-use Rattle.solve.proofs.Steps.{broke}
+use Rattle.limits.proofs.Outcomes.{broke}
 use Rattle.solve.proofs.Surveys.{start_refused, samples_refused, samples_solved}
 use Rattle.solve.proofs.surveying.solve_samples.Goals as goal
 

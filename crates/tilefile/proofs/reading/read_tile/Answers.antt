@@ -1,6 +1,6 @@
 use Rattle.std.proofs.Common.{Ok, IsOk, IfOk, refl, sym, subst, arith}
+use Rattle.limits.proofs.Outcomes.{broke}
 use Rattle.filter.specs.declared.states.Draft.{Draft}
-use Rattle.tilefile.proofs.Entries.{broke}
 use Rattle.tilefile.specs.Contents.{contents_survey}
 use Rattle.tilefile.specs.Files.{FillDoes, LedTo, ReadDoes}
 use Rattle.tilefile.specs.Layout.{IsLayout}

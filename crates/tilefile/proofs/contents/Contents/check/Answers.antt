@@ -1,8 +1,8 @@
 use Rattle.std.proofs.Common.{◌≡◌, refl, ap, ◌∙◌}
-use Rattle.limits.proofs.Outcomes.{none_found}
+use Rattle.limits.proofs.Outcomes.{none_found, broke}
 use Rattle.tilefile.specs.Files.{FileChecked}
 use Rattle.tilefile.proofs.Wholes.{SectionsAre, contents_hold}
-use Rattle.tilefile.proofs.Entries.{broke, carried}
+use Rattle.tilefile.proofs.Entries.{carried}
 use Rattle.tilefile.proofs.Sections.{rule_mapped, shape_mapped, cells_mapped}
 use Rattle.tilefile.proofs.contents.Contents.check.Goals as goal
 

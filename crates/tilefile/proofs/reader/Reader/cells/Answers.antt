@@ -1,7 +1,7 @@
 use Rattle.std.proofs.Common.{◌≡◌, ap, ◌∙◌}
-use Rattle.limits.proofs.Outcomes.{mapped, none_found, unrefused}
+use Rattle.limits.proofs.Outcomes.{mapped, none_found, unrefused, broke}
 use Rattle.tilefile.specs.Sections.{reading_place}
-use Rattle.tilefile.proofs.Entries.{broke, carried, no_rest}
+use Rattle.tilefile.proofs.Entries.{carried, no_rest}
 use Rattle.tilefile.proofs.Sections.{readings_mapped, ties_mapped}
 use Rattle.tilefile.proofs.reader.Reader.cells.Goals as goal
 

@@ -1,7 +1,8 @@
 use Rattle.std.proofs.Common.{◌≡◌, Ok, ap, ap₂, ◌∙◌, drop, arith}
+use Rattle.limits.proofs.Outcomes.{broke}
 use Rattle.tile.specs.Shapes.{cells}
 use Rattle.tilefile.specs.Sections.{reading_place as readings_place}
-use Rattle.tilefile.proofs.Entries.{broke, reading_more, readings_refused, readings_passed}
+use Rattle.tilefile.proofs.Entries.{reading_more, readings_refused, readings_passed}
 use Rattle.tilefile.proofs.reader.Reader.readings.Goals as goal
 
 pub returns-in_err-reading-clause-checked : goal.returns-in_err-reading-clause-checked

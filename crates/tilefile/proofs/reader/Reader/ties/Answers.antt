@@ -1,7 +1,8 @@
 use Rattle.std.proofs.Common.{◌≡◌, Ok, ap, ap₂, ◌∙◌, drop, arith}
+use Rattle.limits.proofs.Outcomes.{broke}
 use Rattle.tile.specs.Shapes.{cells}
 use Rattle.tilefile.specs.Sections.{ties_place}
-use Rattle.tilefile.proofs.Entries.{broke, tie_more, ties_refused, ties_passed}
+use Rattle.tilefile.proofs.Entries.{tie_more, ties_refused, ties_passed}
 use Rattle.tilefile.proofs.reader.Reader.ties.Goals as goal
 
 pub returns-in_err-tie-clause-checked : goal.returns-in_err-tie-clause-checked

@@ -172,15 +172,24 @@ def printed_as_told(folder):
     return said == (folder / "stdout").read_text()
 
 
+def tests_of(folder):
+    """Runs the crate's tests, if it has any: the status, and what was said."""
+    any_tests = any("#[test]" in path.read_text() for path in (folder / "src").rglob("*.rt"))
+    return run(["rt", "try", "--test"], folder) if any_tests else (0, "")
+
+
 def only(folder, place):
     """A check of one function alone: by its short name, or by its whole one, where several functions have the short one."""
     file, owner, name, _, _ = place
     status, said = run(["rt", "check", "--only", name], folder)
     if "several functions are named" in said:
-        end = f"{owner or pathlib.Path(file).stem}::{name}"
-        whole = next(it for it in re.findall(r"`([\w:]+)`", said) if it.endswith(end))
-        status, said = run(["rt", "check", "--only", whole], folder)
-    return status, said
+        # The methods of an `impl` of a trait go by the type's name and the trait's, written together.
+        within = owner or pathlib.Path(file).stem
+        named = [it.split("::") for it in re.findall(r"`([\w:]+)`", said)]
+        whole = [path for path in named if len(path) > 1 and path[-1] == name and path[-2].startswith(within)]
+        status, said = run(["rt", "check", *(["--only", "::".join(whole[0])] if whole else [])], folder)
+    # A function of the tests alone is not proved: they judge it.
+    return (0, "") if "has no function" in said else (status, said)
 
 
 def alone(folder, checked, bug):
@@ -194,9 +203,12 @@ def alone(folder, checked, bug):
         if first or not places:
             return "bad", first or said[-150:]
         wrong = [it for it in places if it.startswith("proofs/") and " error" in it]
-        return ("proof file", wrong[0]) if wrong else ("proof", places[0])
-    if run(["rt", "try", "--test"], checked)[0] != 0:
-        return "test", "a test fails"
+        if wrong:
+            return "proof file", wrong[0]
+        return "proof", next((it for it in places if it.startswith("src/")), places[0])
+    status, said = tests_of(checked)
+    if status != 0:
+        return ("bad", said[-150:]) if "error[" in said else ("test", "a test fails")
     return ("passed", "") if printed_as_told(checked) else ("test", "prints something else")
 
 

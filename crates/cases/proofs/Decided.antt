@@ -5,7 +5,8 @@ use Rattle.theory.specs.Graphs.{Proper}
 use Rattle.theory.specs.Grids.{Problem, Heights, energy, Grid, LowestCheapestGrid}
 use Rattle.tile.specs.Rating.{height}
 use Rattle.theory.proofs.Locals.{energy_same}
-use Rattle.cases.proofs.Every.{every, every_passes, every_grid, every_grid_passes, listed, listed_at}
+use Rattle.theory.proofs.Every.{every, every_passes}
+use Rattle.cases.proofs.EveryGrid.{every_grid, every_grid_passes, listed, listed_at}
 
 -- among the first n cells h lies nowhere above k
 abbrev nowhere_above : ℕ → Heights → Heights → Bool

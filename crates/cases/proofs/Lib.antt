@@ -1,3 +1,3 @@
-pub mod Every
+pub mod EveryGrid
 pub mod Decided
 pub mod Worked

@@ -29,8 +29,9 @@ worked =
     ∷ record { rule = squared 10; shape = two_in_a_row; readings = 0 ∷ 10 ∷ []; classes = 1 ∷ 1 ∷ []; right = 6 ∷ []; down = []; heights = 3 ∷ 7 ∷ []; energy = 42 }
     -- under a heavier tie four grids are cheapest, and this is the lowest of them
     ∷ record { rule = squared 10; shape = two_in_a_row; readings = 0 ∷ 10 ∷ []; classes = 1 ∷ 1 ∷ []; right = 7 ∷ []; down = []; heights = 3 ∷ 6 ∷ []; energy = 46 }
-    -- going up costs four times as much as going down, so the first cell comes down to the second
-    ∷ record { rule = leaning 10; shape = two_in_a_row; readings = 10 ∷ 2 ∷ []; classes = 1 ∷ 1 ∷ []; right = 2 ∷ []; down = []; heights = 2 ∷ 2 ∷ []; energy = 8 }
+    -- going up costs four times as much as going down, so the first cell comes down to the second, although it weighs three times as
+    -- much; under the absolute rule the second would go up
+    ∷ record { rule = leaning 10; shape = two_in_a_row; readings = 10 ∷ 2 ∷ []; classes = 2 ∷ 1 ∷ []; right = 4 ∷ []; down = []; heights = 2 ∷ 2 ∷ []; energy = 24 }
     -- where both cost the same, every common height from 2 to 10 is as cheap, and 2 is the lowest
     ∷ record { rule = absolute 10; shape = two_in_a_row; readings = 10 ∷ 2 ∷ []; classes = 1 ∷ 1 ∷ []; right = 2 ∷ []; down = []; heights = 2 ∷ 2 ∷ []; energy = 8 }
     -- a corner of class 1 weighs 1, less than its two ties, and falls

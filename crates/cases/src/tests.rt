@@ -51,10 +51,22 @@ fn rows_of_two(rt: HostRuntime) -> Result<(), Fail> {
         &[tied(0, 7), tied(10, 0)],
         &[3, 6],
         46,
-    )?;
-    let fall = [tied(10, 2), tied(2, 0)];
-    check_tile(&rt, &Leaning::new(10)?, 1, 2, 10, &fall, &[2, 2], 8)?;
-    check_tile(&rt, &Absolute::new(10)?, 1, 2, 10, &fall, &[2, 2], 8)
+    )
+}
+
+#[test]
+fn pairs_that_fall_or_rise(rt: HostRuntime) -> Result<(), Fail> {
+    let heavy = Sample {
+        reading: 10,
+        class: 2,
+        right: 4,
+        down: 0,
+    };
+    let fall = [heavy, tied(2, 0)];
+    check_tile(&rt, &Leaning::new(10)?, 1, 2, 10, &fall, &[2, 2], 24)?;
+    check_tile(&rt, &Absolute::new(10)?, 1, 2, 10, &fall, &[10, 10], 8)?;
+    let alike = [tied(10, 2), tied(2, 0)];
+    check_tile(&rt, &Absolute::new(10)?, 1, 2, 10, &alike, &[2, 2], 8)
 }
 
 // Two rows of two cells with all ties 1, of which the first cell reads 1.

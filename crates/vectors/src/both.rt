@@ -1,5 +1,5 @@
 // What is printed for one tile file, by each of the cut makers.
-ghost use Rattle.std.specs.Prelude.{◌≡◌, ◌≢◌, ◌↔◌, IsTrue, IfOk, string_bytes};
+ghost use Rattle.std.specs.Prelude.{◌≢◌, ◌↔◌, IsTrue, IfOk, string_bytes};
 ghost use Rattle.report.specs.Answering.{Answers};
 
 use cut::{AugmentingPaths, PushRelabel, Step};

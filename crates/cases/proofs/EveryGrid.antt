@@ -1,22 +1,7 @@
--- Tests over all heights and over all grids, and what follows when they pass.
-use Rattle.std.proofs.Common.{◌≡◌, ℕ, zero, suc, ◌<◌, ◌≤◌, Bool, true, ◌&&◌, List, [], ◌∷◌, get_or, refl, subst, ⊎_elim, arith}
-use Rattle.std.proofs.lemmas.Bool.{and_parts, cases_lt}
+-- A test over all grids, and what follows when it passes.
+use Rattle.std.proofs.Common.{◌≡◌, ℕ, zero, suc, ◌<◌, ◌≤◌, Bool, true, List, [], ◌∷◌, get_or, refl, arith}
 use Rattle.theory.specs.Grids.{Heights}
-
--- does the test pass at every number below n?
-abbrev pub every : ℕ → (ℕ → Bool) → Bool
-every zero test = true
-every (suc n) test = every n test && test n
-
--- then it passes at each of them
-pub every_passes : (n : ℕ) (test : ℕ → Bool) → every n test ≡ true → (u : ℕ) → u < n → test u ≡ true
-every_passes zero test e u l = absurd (omega arith)
-every_passes (suc n) test e u l =
-    let both = and_parts (every n test) (test n) e in
-    ⊎_elim
-    (λ (k : u < n). every_passes n test both.0 u k)
-    (λ (k : n ≤ u). subst (λ (v : ℕ). test v ≡ true) (omega arith) both.1)
-    (cases_lt u n)
+use Rattle.theory.proofs.Every.{every, every_passes}
 
 -- does the test pass at every list of n heights from 0 to top?
 abbrev pub every_grid : ℕ → ℕ → (List ℕ → Bool) → Bool

@@ -1,5 +1,6 @@
 -- What each call answers and leaves, refusals too.
 use Rattle.std.specs.Prelude.{◌≡◌, ℕ, ◌+◌, ◌*◌, ◌≤◌, length, Ok, Err, Result, slice_set}
+use Rattle.limits.specs.Checking.{RefusedAs}
 use Rattle.limits.specs.Limits.{most_rows}
 use Rattle.limits.specs.declared.refusal.Refusal.{Refusal}
 use Rattle.price.specs.Rules.{Rule}
@@ -36,8 +37,9 @@ pub record Started (rows columns top : ℕ) (t : Tile) (answer : Result Draft Re
   pub shape : MadeOf most_rows rows columns top draft.shape
   pub writes : t' ≡ rewritten (rows * columns) (λ _. fresh top) t
 
+-- start: a draft, and cleared records; or the refusal, and the tile as it was
 abbrev pub StartDoes : (rows columns top : ℕ) → Tile → Result Draft Refusal → Tile → Type 0
-StartDoes rows columns top t answer t' = StartChecked rows columns top (length t) (λ e. (answer ≡ Err e) × (t' ≡ t)) (Started rows columns top t answer t')
+StartDoes rows columns top t answer t' = StartChecked rows columns top (length t) (RefusedAs t answer t') (Started rows columns top t answer t')
 
 -- ---- put and tie
 
@@ -62,6 +64,7 @@ pub record Begun (d : Draft) (answer : Result Rounding (Refused Draft)) : Type 0
   pub shape : rounding.shape ≡ d.shape
   pub done : rounding.done ≡ 0
 
+-- begin: a rounding with no round done; or the refusal, with the draft given back
 abbrev pub BeginDoes : Draft → Tile → Result Rounding (Refused Draft) → Type 0
 BeginDoes d t answer = TileChecked d.shape 0 t (GivesBack d answer) (Begun d answer)
 
@@ -82,6 +85,7 @@ pub record RoundedBy (rule : Rule) (leaves : Shape → Tile → Tile → Type 0)
   pub done : next.done ≡ r.done + 1
   pub halved : HalvedBy rule leaves r.shape t t'
 
+-- round: one round done; or the refusal, with the state given back and the tile as it was
 abbrev pub RoundDoes : Rule → (Shape → Tile → Tile → Type 0) → Rounding → Tile → (entries : ℕ) → Result Rounded (Refused Rounding) → Tile → Type 0
 RoundDoes rule leaves r t entries answer t' = RoundChecked r.shape r.done t entries rule.greatest (LeavesAll r t answer t') (RoundedBy rule leaves r t answer t')
 
@@ -110,6 +114,7 @@ pub record FinishedBy (r : Rounding) (answer : Result Level (Refused Rounding)) 
   pub shape : level.shape ≡ r.shape
   pub done : level.done ≡ r.done
 
+-- finish: a level; or the refusal, with the state given back
 abbrev pub FinishDoes : Rounding → Tile → Result Level (Refused Rounding) → Type 0
 FinishDoes r t answer = FinishChecked r.shape r.done t (GivesBack r answer) (FinishedBy r answer)
 

@@ -49,6 +49,7 @@ surveyed (a ∷ h) = updated a (surveyed h)
 
 -- ---- one call
 
+-- a state of any of the three kinds
 pub data State : Type 0 where
   draft : Draft → State
   rounding : Rounding → State

@@ -1,6 +1,6 @@
 -- One cut of a tile that may hold anything: its checks, and what it answers and leaves, refusals too.
-use Rattle.std.specs.Prelude.{◌≡◌, ℕ, ◌≤◌, length, Ok, Err, Result}
-use Rattle.limits.specs.Checking.{Checked}
+use Rattle.std.specs.Prelude.{◌≡◌, ℕ, ◌≤◌, length, Ok, Result}
+use Rattle.limits.specs.Checking.{Checked, RefusedAs}
 use Rattle.limits.specs.declared.refusal.Refusal.{Refusal}
 use Rattle.limits.specs.declared.refusal.Refusal.TheVariants.{FewRecords, Corrupt, FewEntries}
 use Rattle.theory.specs.Sets.{SmallestCheapestSet}
@@ -27,4 +27,4 @@ pub record CutBy (leaves : Shape → Tile → Tile → Type 0) (s : Shape) (t : 
 
 -- refused, a cut leaves the tile as it was
 abbrev pub CutDoes : (Shape → Tile → Tile → Type 0) → Shape → Tile → (entries : ℕ) → Result (Unit {0}) Refusal → Tile → Type 0
-CutDoes leaves s t entries answer t' = CutChecked s t entries (λ e. (answer ≡ Err e) × (t' ≡ t)) (CutBy leaves s t answer t')
+CutDoes leaves s t entries answer t' = CutChecked s t entries (RefusedAs t answer t') (CutBy leaves s t answer t')

@@ -1,6 +1,6 @@
 -- What C gets of one cut of a tile that may hold anything.
-use Rattle.std.specs.Prelude.{◌≡◌, ℕ, ◌*◌, Err, Result}
-use Rattle.limits.specs.Checking.{Checked}
+use Rattle.std.specs.Prelude.{ℕ, ◌*◌, Result}
+use Rattle.limits.specs.Checking.{Checked, RefusedAs}
 use Rattle.limits.specs.Limits.{most_strip_rows, most_columns, most_top}
 use Rattle.limits.specs.declared.refusal.Refusal.{Refusal}
 use Rattle.limits.specs.declared.refusal.Refusal.TheVariants.{Range}
@@ -17,5 +17,5 @@ most_strip_cells = most_strip_rows * most_columns
 -- a tile what `leaves` says. A cut does not look at the top of its shape, which is the greatest.
 abbrev pub CutAnswers : (Shape → Tile → Tile → Type 0) → (rows columns : ℕ) → Tile → (entries : ℕ) → Result (Unit {0}) Refusal → Tile → Type 0
 CutAnswers leaves rows columns t entries answer t' =
-    Checked 1 Range (Ranged most_strip_rows rows columns most_top) (λ e. (answer ≡ Err e) × (t' ≡ t))
+    Checked 1 Range (Ranged most_strip_rows rows columns most_top) (RefusedAs t answer t')
     ((s : Shape) × MadeOf most_strip_rows rows columns most_top s × CutDoes leaves s t entries answer t')

@@ -1,5 +1,6 @@
 -- What C gets of the calls that make, fill and close a draft.
 use Rattle.std.specs.Prelude.{◌≡◌, ℕ, ◌+◌, ◌*◌, [], take, Err, Result, IfOk}
+use Rattle.limits.specs.Checking.{RefusedAs}
 use Rattle.limits.specs.declared.refusal.Refusal.{Refusal}
 use Rattle.price.specs.Rules.{Rule}
 use Rattle.tile.specs.declared.side.Side.{Side}
@@ -26,12 +27,12 @@ place_in n row column = row * n.columns + column
 
 -- put: what the filter's put does for the draft of the numbers n, and every run that led to it goes on
 pub record PutAnswers (n : DraftNumbers) (t : Tile) (row column v q : ℕ) (answer : Result (Unit {0}) Refusal) (t' : Tile) : Type 0 where
-  pub does : DraftTaken n (λ e. (answer ≡ Err e) × (t' ≡ t)) (λ d. Relayed why_of (λ _. tt) (λ own. PutDoes d t row column v q own t') answer)
+  pub does : DraftTaken n (RefusedAs t answer t') (λ d. Relayed why_of (λ _. tt) (λ own. PutDoes d t row column v q own t') answer)
   pub goes_on : RunsGoOn (of_draft n) t (put_at (place_in n row column) v q) (λ _. of_draft n) answer t'
 
 -- tie: the same for the filter's tie, with a weight w for each side
 pub record TieAnswers (n : DraftNumbers) (t : Tile) (row column : ℕ) (w : Side → ℕ) (answer : Result (Unit {0}) Refusal) (t' : Tile) : Type 0 where
-  pub does : DraftTaken n (λ e. (answer ≡ Err e) × (t' ≡ t)) (λ d. Relayed why_of (λ _. tt) (λ own. TieDoes d t row column w own t') answer)
+  pub does : DraftTaken n (RefusedAs t answer t') (λ d. Relayed why_of (λ _. tt) (λ own. TieDoes d t row column w own t') answer)
   pub goes_on : RunsGoOn (of_draft n) t (tied_at (place_in n row column) w) (λ _. of_draft n) answer t'
 
 -- begin: the same for the filter's begin, with the numbers of the rounding for the rounding

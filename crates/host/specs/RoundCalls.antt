@@ -1,7 +1,7 @@
 -- What C gets of the calls while rounds are done.
 use Rattle.std.specs.Prelude.{◌≡◌, ℕ, zero, suc, Err, Result, IfOk}
 use Rattle.limits.specs.declared.refusal.Refusal.{Refusal}
-use Rattle.limits.specs.Checking.{CheckedBy}
+use Rattle.limits.specs.Checking.{CheckedBy, RefusedAs}
 use Rattle.price.specs.Rules.{Rule}
 use Rattle.tile.specs.declared.shape.Shape.{Shape}
 use Rattle.tile.specs.Tiles.{Tile}
@@ -38,7 +38,7 @@ pub record RoundMeets (rule : Rule) (leaves : Shape → Tile → Tile → Type 0
 
 -- round: what the filter's round does for the rounding of the numbers n, and every run under the rule that led to it goes on
 pub record RoundAnswers (rule : Rule) (leaves : Shape → Tile → Tile → Type 0) (n : RoundingNumbers) (t : Tile) (entries : ℕ) (answer : Result RoundingNumbers Refusal) (t' : Tile) : Type 0 where
-  pub does : RoundingTaken n (λ e. (answer ≡ Err e) × (t' ≡ t)) (λ x. Relayed why_of (λ (a : Rounded). rounding_numbers a.state) (λ own. RoundMeets rule leaves x t entries own t') answer)
+  pub does : RoundingTaken n (RefusedAs t answer t') (λ x. Relayed why_of (λ (a : Rounded). rounding_numbers a.state) (λ own. RoundMeets rule leaves x t entries own t') answer)
   pub goes_on : RunsGoOnUnder rule (of_rounding n) t rounded of_rounding answer t'
 
 -- the workspace is as it was where the call was not accepted
@@ -55,5 +55,5 @@ pub record FinishAnswers (n : RoundingNumbers) (t : Tile) (answer : Result Level
 
 -- the same for the filter's reopen
 pub record ReopenAnswers (n : RoundingNumbers) (t : Tile) (answer : Result DraftNumbers Refusal) (t' : Tile) : Type 0 where
-  pub does : RoundingTaken n (λ e. (answer ≡ Err e) × (t' ≡ t)) (λ x. Relayed why_of draft_numbers (λ own. ReopenDoes x x.shape x.done t own t') answer)
+  pub does : RoundingTaken n (RefusedAs t answer t') (λ x. Relayed why_of draft_numbers (λ own. ReopenDoes x x.shape x.done t own t') answer)
   pub goes_on : RunsGoOn (of_rounding n) t reopened of_draft answer t'

@@ -1,5 +1,5 @@
 -- The checks of any call, in their order, and what they come to.
-use Rattle.std.specs.Prelude.{◌≡◌, ℕ, zero, suc}
+use Rattle.std.specs.Prelude.{◌≡◌, ℕ, zero, suc, Err, Result}
 use Rattle.limits.specs.Refusals.{number}
 use Rattle.limits.specs.declared.refusal.Refusal.{Refusal}
 
@@ -13,7 +13,11 @@ pub data CheckedBy {E : Type 0} (number_of : E → ℕ) (n : ℕ) (e : E) (Holds
 abbrev pub Checked : ℕ → Refusal → Type 0 → (Refusal → Type 0) → Type 0 → Type 0
 Checked = CheckedBy number
 
--- the checks of the first n cells, cell by cell, of which One has those of one cell
+-- what a refusal leaves: its case is answered, and what the call was lent is as it was
+abbrev pub RefusedAs : {L X E : Type 0} → L → Result X E → L → E → Type 0
+RefusedAs before answer after e = (answer ≡ Err e) × (after ≡ before)
+
+-- the checks of the first n cells, cell by cell; One u has those of the cell u
 abbrev pub EachChecked : (One : ℕ → Type 0 → Type 0) → ℕ → Type 0 → Type 0
 EachChecked One zero Rest = Rest
 EachChecked One (suc u) Rest = EachChecked One u (One u Rest)

@@ -33,6 +33,7 @@ narrowed s t = rewritten (cells s) (λ u. with_bracket (half_marked (cell t u)) 
 
 -- ---- what the passes of a round need of the records; sound ones have it
 
+-- what charging needs: a record for each cell, and readings, classes, ties and brackets in their ranges
 pub record Chargeable (s : Shape) (t : Tile) : Type 0 where
   pub whole : cells s ≤ length t
   pub readings : (u : ℕ) → u < cells s → (cell t u).reading ≤ s.top
@@ -41,6 +42,7 @@ pub record Chargeable (s : Shape) (t : Tile) : Type 0 where
   pub lows : (u : ℕ) → u < cells s → (cell t u).low ≤ s.top
   pub highs : (u : ℕ) → u < cells s → (cell t u).high ≤ s.top
 
+-- what narrowing needs: a record for each cell, and brackets of heights up to top
 pub record Narrowable (s : Shape) (t : Tile) : Type 0 where
   pub whole : cells s ≤ length t
   pub lows : (u : ℕ) → u < cells s → (cell t u).low ≤ s.top

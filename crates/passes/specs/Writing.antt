@@ -11,6 +11,7 @@ use Rattle.tile.specs.Tiles.{Tile, blank}
 
 -- ---- one record, with some of its fields written
 
+-- another reading and class
 abbrev pub with_reading : ℕ → ℕ → Cell → Cell
 with_reading v q c =
     record { reading = v; class = q; right = c.right; down = c.down; right_flow = c.right_flow; down_flow = c.down_flow; low = c.low; high = c.high; charge = c.charge; mark = c.mark; rank = c.rank }
@@ -20,6 +21,7 @@ abbrev pub with_ties : (Side → ℕ) → Cell → Cell
 with_ties w c =
     record { reading = c.reading; class = c.class; right = w Rightward; down = w Downward; right_flow = c.right_flow; down_flow = c.down_flow; low = c.low; high = c.high; charge = c.charge; mark = c.mark; rank = c.rank }
 
+-- another bracket
 abbrev pub with_bracket : Bracket → Cell → Cell
 with_bracket b c =
     record { reading = c.reading; class = c.class; right = c.right; down = c.down; right_flow = c.right_flow; down_flow = c.down_flow; low = b.low; high = b.high; charge = c.charge; mark = c.mark; rank = c.rank }

@@ -1,7 +1,7 @@
 -- What solving a file answers and leaves.
-use Rattle.std.specs.Prelude.{◌≡◌, ℕ, ◌≤◌, List, length, Ok, Err, Result}
+use Rattle.std.specs.Prelude.{◌≡◌, ℕ, ◌≤◌, List, length, Ok, Result}
 use Rattle.limits.specs.declared.refusal.Refusal.TheVariants.{FewEntries}
-use Rattle.limits.specs.Checking.{Checked}
+use Rattle.limits.specs.Checking.{Checked, RefusedAs}
 use Rattle.price.specs.Rules.{Rule}
 use Rattle.theory.specs.Grids.{LowestCheapestGrid, energy}
 use Rattle.tile.specs.declared.shape.Shape.{Shape}
@@ -40,5 +40,5 @@ pub record FileSolved (s : Shape) (f : List ℕ) (t : Tile) (answer : Result Sol
 -- A file with a fault is refused with the first one, and a file without one for too few entries of workspace alone; then the tile is
 -- as it was.
 abbrev pub SolveFileDoes : List ℕ → Tile → (entries : ℕ) → Result Solution FileRefusal → Tile → Type 0
-SolveFileDoes f t n answer t' = FileChecked f (length t) (λ e. (answer ≡ Err (File e)) × (t' ≡ t)) (λ s.
-    Checked 7 FewEntries (cells s ≤ n) (λ e. (answer ≡ Err (Call e)) × (t' ≡ t)) (FileSolved s f t answer t'))
+SolveFileDoes f t n answer t' = FileChecked f (length t) (λ e. RefusedAs t answer t' (File e)) (λ s.
+    Checked 7 FewEntries (cells s ≤ n) (λ e. RefusedAs t answer t' (Call e)) (FileSolved s f t answer t'))

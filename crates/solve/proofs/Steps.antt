@@ -4,7 +4,7 @@ use Rattle.std.proofs.lemmas.List.{get_or-take}
 use Rattle.std.proofs.lemmas.Bool.{cases_lt}
 use Rattle.limits.specs.Limits.{most_rows}
 use Rattle.limits.specs.declared.refusal.Refusal.{Refusal}
-use Rattle.limits.specs.Checking.{passed}
+use Rattle.limits.specs.Checking.{passed, RefusedAs}
 use Rattle.limits.proofs.Outcomes.{either, mapped, followed, surely, broke, same_refusal}
 use Rattle.price.specs.Rules.{Rule, Lawful}
 use Rattle.theory.proofs.Locals.{lowest_same}
@@ -24,7 +24,7 @@ use Rattle.filter.specs.Checks.{TileChecked, RoundChecked}
 use Rattle.filter.specs.Calls.{StartDoes, LeavesAll, BeginDoes, RoundDoes, SurveyKept, KeptIfRefused, FinishedBy, FinishDoes, heights}
 use Rattle.filter.specs.Runs.{begun, rounded, finished, History, surveyed, State, draft, rounding, level, added, next, Lent, Run, GoesOn, GoesOnUnder}
 use Rattle.filter.specs.Laws.{EveryRunKeepsTheLaw}
-use Rattle.solve.specs.Solving.{RefusedAs, RoundsChecked, Levelled, SolveDoes, Solved, SolveChecked, SolvesRuns, Onward, RoundedTo, BeginsRounds, RoundsOnce, RoundsAhead, RoundsAll, RoundsBehind, SolvedFrom, FinishesRounds}
+use Rattle.solve.specs.Solving.{RoundsChecked, Levelled, SolveDoes, Solved, SolveChecked, SolvesRuns, Onward, RoundedTo, BeginsRounds, RoundsOnce, RoundsAhead, RoundsAll, RoundsBehind, SolvedFrom, FinishesRounds}
 use Rattle.filter.proofs.RunsKept.{not_both, run_shape, sound_slice, lent_whole}
 
 -- an answer whose refusal says only why

@@ -2,12 +2,11 @@
 use Rattle.std.specs.Prelude.{◌≡◌, ℕ, ◌≤◌, length, take, Ok, Err, Result}
 use Rattle.limits.specs.declared.refusal.Refusal.{Refusal}
 use Rattle.limits.specs.declared.refusal.Refusal.TheVariants.{FewRecords, FewEntries}
-use Rattle.limits.specs.Checking.{Checked}
+use Rattle.limits.specs.Checking.{Checked, RefusedAs}
 use Rattle.price.specs.Rules.{Rule}
 use Rattle.tile.specs.Tiles.{Tile}
 use Rattle.filter.specs.declared.states.Level.{Level}
 use Rattle.filter.specs.Runs.{History, Finished, level, Run}
-use Rattle.solve.specs.Solving.{RefusedAs}
 
 -- a level is answered, and a finished run under the rule led to it and to these records
 pub record FinishedRun (rule : Rule) (answer : Result Level Refusal) (records : Tile) : Type 0 where

@@ -2,7 +2,7 @@
 use Rattle.std.specs.Prelude.{◌≡◌, ℕ, ◌+◌, ◌≤◌, length, take, Ok, Err, Result}
 use Rattle.limits.specs.declared.refusal.Refusal.{Refusal}
 use Rattle.limits.specs.declared.refusal.Refusal.TheVariants.{FewRecords, FewEntries, Ceiling}
-use Rattle.limits.specs.Checking.{Checked}
+use Rattle.limits.specs.Checking.{Checked, RefusedAs}
 use Rattle.price.specs.Rules.{Rule, Lawful}
 use Rattle.theory.specs.Grids.{LowestCheapestGrid}
 use Rattle.tile.specs.declared.shape.Shape.{Shape}
@@ -16,10 +16,6 @@ use Rattle.filter.specs.declared.states.Level.{Level}
 use Rattle.filter.specs.Checks.{TileChecked, RoundChecked}
 use Rattle.filter.specs.Calls.{heights}
 use Rattle.filter.specs.Runs.{History, Finished, surveyed, State, draft, rounding, level, Lent, Run}
-
--- what a refusal leaves: its case is answered, and the tile is as it was
-abbrev pub RefusedAs : {X : Type 0} → Tile → Result X Refusal → Tile → Refusal → Type 0
-RefusedAs t answer t' e = (answer ≡ Err e) × (t' ≡ t)
 
 -- the records past the first n, and how many there are, are as they were
 pub record PastKept (n : ℕ) (t t' : Tile) : Type 0 where

@@ -3,7 +3,7 @@ use Rattle.std.specs.Prelude.{◌≡◌, ℕ, ◌/◌, ◌%◌, ◌<◌, ◌≤�
 use Rattle.limits.specs.Limits.{most_rows}
 use Rattle.limits.specs.declared.refusal.Refusal.{Refusal}
 use Rattle.limits.specs.declared.refusal.Refusal.TheVariants.{FewRecords, Reading, Tie}
-use Rattle.limits.specs.Checking.{Checked, EachChecked}
+use Rattle.limits.specs.Checking.{Checked, EachChecked, RefusedAs}
 use Rattle.price.specs.Rules.{Rule, Lawful}
 use Rattle.tile.specs.declared.shape.Shape.{Shape}
 use Rattle.tile.specs.declared.side.Side.{Side}
@@ -16,7 +16,7 @@ use Rattle.filter.specs.declared.states.Level.{Level}
 use Rattle.filter.specs.Checks.{StartChecked}
 use Rattle.filter.specs.Runs.{put_at, tied_at, History, draft, Run}
 use Rattle.solve.specs.declared.surveying.Sample.{Sample}
-use Rattle.solve.specs.Solving.{RefusedAs, RoundsChecked, Solved, Led}
+use Rattle.solve.specs.Solving.{RoundsChecked, Solved, Led}
 
 -- ---- samples
 

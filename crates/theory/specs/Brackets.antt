@@ -18,6 +18,7 @@ middle low high = (low + high) / 2
 abbrev pub settled : Brackets → CellSet
 settled b u = b.low u == b.high u
 
+-- two cells have the same bracket
 abbrev pub same_bracket : Brackets → ℕ → ℕ → Bool
 same_bracket b u v = b.low u == b.low v && b.high u == b.high v
 

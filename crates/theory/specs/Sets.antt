@@ -7,16 +7,19 @@ use Rattle.theory.specs.Graphs.{Graph, Proper}
 abbrev pub CellSet : Type 0
 CellSet = ℕ → Bool
 
+-- the cells that are in both sets
 abbrev pub meet : CellSet → CellSet → CellSet
 meet s t u = s u && t u
 
+-- the cells that are in one of the sets, or in both
 abbrev pub join : CellSet → CellSet → CellSet
 join s t u = s u || t u
 
--- among the cells below n: s is contained in t, and s and t are the same
+-- each of the cells below n that is in s is in t
 abbrev pub Within : ℕ → CellSet → CellSet → Type 0
 Within n s t = (u : ℕ) → u < n → s u ≡ true → t u ≡ true
 
+-- s and t have the same cells below n
 abbrev pub Same : ℕ → CellSet → CellSet → Type 0
 Same n s t = (u : ℕ) → u < n → s u ≡ t u
 

@@ -6,6 +6,7 @@ abbrev pub sum : ℕ → (ℕ → ℕ) → ℕ
 sum zero f = 0
 sum (suc n) f = sum n f + f n
 
+-- the same of signed numbers
 abbrev pub sumℤ : ℕ → (ℕ → ℤ) → ℤ
 sumℤ zero f = pos 0
 sumℤ (suc n) f = sumℤ n f +ℤ f n
@@ -15,6 +16,7 @@ abbrev pub total : {X : Type 0} → List X → (X → ℕ) → ℕ
 total [] f = 0
 total (x ∷ xs) f = f x + total xs f
 
+-- the same of signed numbers
 abbrev pub totalℤ : {X : Type 0} → List X → (X → ℤ) → ℤ
 totalℤ [] f = pos 0
 totalℤ (x ∷ xs) f = f x +ℤ totalℤ xs f

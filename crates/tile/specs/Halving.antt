@@ -7,10 +7,11 @@ use Rattle.tile.specs.declared.bracket.Bracket.{Bracket}
 abbrev pub from_to : ℕ → ℕ → Bracket
 from_to low high = record { low = low; high = high }
 
--- the two halves of a bracket: low..middle and middle + 1..high
+-- the lower half of a bracket: low..middle
 abbrev pub half_below : Bracket → Bracket
 half_below b = from_to b.low (middle b.low b.high)
 
+-- the upper half: middle + 1..high
 abbrev pub half_above : Bracket → Bracket
 half_above b = from_to (middle b.low b.high + 1) b.high
 

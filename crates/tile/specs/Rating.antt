@@ -40,5 +40,6 @@ pub record TooFew (s : Shape) (t : Tile) (hs : List ℕ) (e : Refusal) : Type 0 
   pub because : e ≡ FewRecords
   pub numbered : number e ≡ 2
 
+-- what rating answers: the energy, or the refusal of too few records or heights
 abbrev pub Rated : Rule → Shape → Tile → List ℕ → Result ℕ Refusal → Type 0
 Rated rule s t hs r = MatchResult r (EnergyOf rule s t hs) (TooFew s t hs)

@@ -1,9 +1,9 @@
 -- Tile files, what they say, and what reading one answers and leaves.
-use Rattle.std.specs.Prelude.{◌≡◌, ℕ, zero, suc, ◌≤◌, length, List, [], ◌∷◌, take, drop, Ok, Err, Result}
+use Rattle.std.specs.Prelude.{◌≡◌, ℕ, zero, suc, ◌≤◌, length, List, [], ◌∷◌, take, drop, Ok, Result}
 use Rattle.limits.specs.Limits.{most_rows}
 use Rattle.limits.specs.declared.refusal.Refusal.{Refusal}
 use Rattle.limits.specs.declared.refusal.Refusal.TheVariants.{FewRecords}
-use Rattle.limits.specs.Checking.{Checked}
+use Rattle.limits.specs.Checking.{Checked, RefusedAs}
 use Rattle.price.specs.Rules.{Rule, Lawful}
 use Rattle.tile.specs.declared.shape.Shape.{Shape}
 use Rattle.tile.specs.Shapes.{cells, MadeOf}
@@ -54,7 +54,7 @@ pub record FilledBy (s : Shape) (y : Survey) (t : Tile) (answer : Result Draft R
   pub writes : t' ≡ rewritten (cells s) (cell_record s.top y) t
 
 abbrev pub FillDoes : Shape → Survey → Tile → Result Draft Refusal → Tile → Type 0
-FillDoes s y t answer t' = Checked 2 FewRecords (cells s ≤ length t) (λ e. (answer ≡ Err e) × (t' ≡ t)) (FilledBy s y t answer t')
+FillDoes s y t answer t' = Checked 2 FewRecords (cells s ≤ length t) (RefusedAs t answer t') (FilledBy s y t answer t')
 
 -- a draft of the shape s and the letter are answered, and the records of its cells are those of what the file says
 pub record ReadAs (s : Shape) (f : List ℕ) (t : Tile) (answer : Result (Draft × Letter) Fault) (t' : Tile) : Type 0 where
@@ -67,7 +67,7 @@ pub record ReadAs (s : Shape) (f : List ℕ) (t : Tile) (answer : Result (Draft 
 
 -- A file with a fault is refused with the first one, and the tile is as it was.
 abbrev pub ReadDoes : List ℕ → Tile → Result (Draft × Letter) Fault → Tile → Type 0
-ReadDoes f t answer t' = FileChecked f (length t) (λ e. (answer ≡ Err e) × (t' ≡ t)) (λ s. ReadAs s f t answer t')
+ReadDoes f t answer t' = FileChecked f (length t) (RefusedAs t answer t') (λ s. ReadAs s f t answer t')
 
 -- ---- the run that a file stands for
 

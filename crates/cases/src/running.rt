@@ -1,11 +1,12 @@
 // How a tile is put through the calls, and what comes of it is compared.
 use cut::{AugmentingPaths, PushRelabel, Step};
 use filter::{Level, Refused};
+use limits::Refusal;
 use price::PriceRule;
 use solve::{Sample, solve, solve_samples};
 use std::process::Abort;
 use std::test::Fail;
-use tile::{Cell, Refusal};
+use tile::Cell;
 
 // What the records hold before a start: anything.
 pub const JUNK: Cell = Cell {

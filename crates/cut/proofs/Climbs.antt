@@ -10,7 +10,7 @@ use Rattle.tile.specs.declared.side.Side.TheVariants.{Rightward, Downward}
 use Rattle.tile.specs.declared.side.Side.{Side}
 use Rattle.tile.specs.Records.{stored_flow}
 use Rattle.tile.specs.Tiles.{Tile, cell}
-use Rattle.theory.specs.Sums.{sum}
+use Rattle.theory.specs.Sums.{sum_below}
 use Rattle.theory.proofs.Sums.{sum_mono}
 use Rattle.flow.specs.Sides.{beside, has_beside, opposite, room_forth, room_back, room, remains, lack, total_lack, InDeficit, InSurplus, SameSurvey, Eased, Sent, add_flow, pushed}
 use Rattle.tile.specs.Ties.{offset}
@@ -74,7 +74,7 @@ room_pushed t c Up u f l = room_added t c Downward (u - c) (neg_ℤ f) (u - c) (
 
 -- sums
 
-pub sum_less : (n : ℕ) (f g : ℕ → ℕ) (k : ℕ) → ((u : ℕ) → f u ≤ g u) → k < n → f k < g k → sum n f < sum n g
+pub sum_less : (n : ℕ) (f g : ℕ → ℕ) (k : ℕ) → ((u : ℕ) → f u ≤ g u) → k < n → f k < g k → sum_below n f < sum_below n g
 sum_less zero f g k le l s = absurd (omega arith)
 sum_less (suc n) f g k le l s =
     ⊎_elim
@@ -85,7 +85,7 @@ sum_less (suc n) f g k le l s =
 pub relieved : (c : ℕ) (t t' : Tile) (k : ℕ) → Eased c t t' → k < length t → lack t' c k < lack t c k → Relieved c t t'
 relieved c t t' k e l s = record {
   eased = e;
-  fewer = subst (λ (n : ℕ). sum n (lack t' c) < sum (length t) (lack t c)) (sym e.still.long) (sum_less (length t) (lack t' c) (lack t c) k e.less l s);
+  fewer = subst (λ (n : ℕ). sum_below n (lack t' c) < sum_below (length t) (lack t c)) (sym e.still.long) (sum_less (length t) (lack t' c) (lack t c) k e.less l s);
 }
 
 lack_falls : (a f b : ℤ) → a <ℤ pos 0 → pos 0 <ℤ f → b ≡ a +ℤ f → down b < down a
@@ -214,7 +214,7 @@ module _ (c : ℕ) (t t' : Tile) (v u : ℕ) (h g : Direction) (r : Bool) (sp : 
       (a x (subst (λ (k : ℕ). x < k) long lx) (omega arith))
 
 pub lack_eased : (c : ℕ) (t t' : Tile) → Eased c t t' → total_lack t' c ≤ total_lack t c
-lack_eased c t t' e = subst (λ (n : ℕ). sum n (lack t' c) ≤ sum (length t) (lack t c)) (sym e.still.long) (sum_mono (length t) (lack t' c) (lack t c) (λ u _. e.less u))
+lack_eased c t t' e = subst (λ (n : ℕ). sum_below n (lack t' c) ≤ sum_below (length t) (lack t c)) (sym e.still.long) (sum_mono (length t) (lack t' c) (lack t c) (λ u _. e.less u))
 
 pub relieved_after : (c : ℕ) (t t' t'' : Tile) → Eased c t t' → Relieved c t' t'' → Relieved c t t''
 relieved_after c t t' t'' e r = record { eased = eased_trans c t t' t'' e r.eased; fewer = omega (arith, r.fewer, lack_eased c t t' e) }

@@ -2,7 +2,7 @@
 ghost use Rattle.std.specs.Prelude.{◌≡◌};
 
 use crate::states::Rounding;
-use tile::Refusal;
+use limits::Refusal;
 
 // A refused call gives back the state that it took. So a call takes its check's answer apart: with `map_err` and `?` the closure
 // would have taken the state, which the call goes on with.

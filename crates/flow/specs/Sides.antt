@@ -10,7 +10,7 @@ use Rattle.tile.specs.declared.side.Side.TheVariants.{Rightward, Downward}
 use Rattle.tile.specs.Records.{stored_tie, stored_flow, recharged, share_bracket}
 use Rattle.tile.specs.Ties.{offset}
 use Rattle.tile.specs.Tiles.{Tile, cell}
-use Rattle.theory.specs.Sums.{sum}
+use Rattle.theory.specs.Sums.{sum_below}
 use Rattle.flow.specs.declared.direction.Direction.{Direction}
 use Rattle.flow.specs.declared.direction.Direction.TheVariants.{Right, Down, Left, Up}
 
@@ -92,7 +92,7 @@ abbrev pub lack : Tile → ℕ → ℕ → ℕ
 lack t c u = down (remains t c u)
 
 abbrev pub total_lack : Tile → ℕ → ℕ
-total_lack t c = sum (length t) (lack t c)
+total_lack t c = sum_below (length t) (lack t c)
 
 -- a record with more flow on one side
 abbrev pub with_more_flow : Side → ℤ → Cell → Cell

@@ -10,8 +10,9 @@ ghost use Rattle.host.specs.Telling.{Coded};
 use crate::telling::code;
 use cut::{AugmentingPaths, PushRelabel, Step};
 use flow::{CutMaker, try_cut};
+use limits::Refusal;
 use limits::{MAX_COLUMNS, MAX_STRIP_ROWS, MAX_TOP};
-use tile::{Cell, Refusal, Shape};
+use tile::{Cell, Shape};
 
 // Enough entries for any shape.
 const ENTRIES: usize = MAX_STRIP_ROWS * MAX_COLUMNS;

@@ -6,7 +6,8 @@ ghost use Rattle.host.specs.Telling.{Coded, Told};
 
 use crate::numbers::{DraftNumbers, RoundingNumbers};
 use crate::telling::{code, tell};
-use tile::{Cell, Refusal};
+use limits::Refusal;
+use tile::Cell;
 
 fn start(rows: usize, columns: usize, top: u16, tile: &mut [Cell]) -> Result<DraftNumbers, Refusal>
     ensures does { StartAnswers rows columns top tile.old result tile.new }

@@ -9,7 +9,8 @@ ghost use Rattle.host.specs.Telling.{Coded, Told};
 
 use crate::numbers::{DraftNumbers, LevelNumbers};
 use crate::telling::{code, tell};
-use tile::{Cell, Refusal};
+use limits::Refusal;
+use tile::Cell;
 use tilefile::{Flaw, Letter, LetterRule};
 
 fn height(level: LevelNumbers, tile: &[Cell], row: usize, column: usize) -> Result<u16, Refusal>

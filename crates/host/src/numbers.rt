@@ -4,7 +4,7 @@ ghost use Rattle.filter.specs.Resuming.{ResumesItself};
 ghost use Rattle.filter.specs.Runs.{draft, rounding, level};
 
 use filter::{Draft, Level, Rounding};
-use tile::Refusal;
+use limits::Refusal;
 
 #[repr(C)]
 #[derive(Clone, Copy, PartialEq, Eq, Debug, Default)]

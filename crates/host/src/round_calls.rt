@@ -11,7 +11,8 @@ use crate::numbers::{DraftNumbers, LevelNumbers, RoundingNumbers};
 use crate::rounding::round;
 use crate::telling::tell;
 use cut::PushRelabel;
-use tile::{Cell, Refusal};
+use limits::Refusal;
+use tile::Cell;
 use tilefile::{Flaw, Letter};
 
 fn finish(rounding: RoundingNumbers, tile: &[Cell]) -> Result<LevelNumbers, Refusal>

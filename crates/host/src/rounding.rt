@@ -7,7 +7,8 @@ ghost use Rattle.host.specs.RoundCalls.{RoundAnswers};
 
 use crate::numbers::RoundingNumbers;
 use flow::CutMaker;
-use tile::{Cell, Refusal};
+use limits::Refusal;
+use tile::Cell;
 use tilefile::{Letter, LetterRule};
 
 pub(crate) fn round<M: CutMaker>(

@@ -2,7 +2,7 @@
 ghost use Rattle.std.specs.Prelude.{◌≡◌};
 ghost use Rattle.host.specs.Telling.{code_of, written};
 
-use tile::Refusal;
+use limits::Refusal;
 
 // The number of what was done; refusals have theirs, from 1 on.
 pub(crate) const DONE: u8 = 0;

@@ -2,7 +2,7 @@
 use Rattle.std.proofs.Common.{◌≡◌, ℕ, zero, suc, ◌+◌, ◌-◌, ◌<◌, ◌≤◌, Bool, true, false, cond, ◌&&◌, eqb, leb, [], ◌++◌, ℤ, pos, ◌+ℤ◌, ◌-ℤ◌, sym, refl, ◌∙◌, ap₂, ⊎_elim, arith}
 use Rattle.std.proofs.lemmas.Int.{ints}
 use Rattle.std.proofs.lemmas.Bool.{cases_eq, cases_lt, cases_Bool, eq-eqb, ne_eqb, lt-ltb, le-ltb, le-leb, lt-leb}
-use Rattle.theory.specs.Sums.{sum, total}
+use Rattle.theory.specs.Sums.{sum_below, total}
 use Rattle.theory.specs.Brackets.{tied_to, lies_below}
 use Rattle.theory.proofs.Sums.{sum_add, sum_same, sum_zero, pick_one, total_append}
 use Rattle.tile.specs.declared.shape.Shape.{Shape}
@@ -33,18 +33,18 @@ one_cell s k v h =
     let b = total_append (tie_on s v Downward) [] k in
     omega (arith, a, b, one_side s k v Rightward (h Rightward), one_side s k v Downward (h Downward))
 
-by_cells : (s : Shape) (k : Tie → ℕ) (n : ℕ) → ((v : ℕ) (d : Side) → v < n → has_neighbour s v d ≡ false → k (tie_at v d) ≡ 0) → total (ties_below s n) k ≡ sum n (λ v. k (tie_at v Rightward)) + sum n (λ v. k (tie_at v Downward))
+by_cells : (s : Shape) (k : Tie → ℕ) (n : ℕ) → ((v : ℕ) (d : Side) → v < n → has_neighbour s v d ≡ false → k (tie_at v d) ≡ 0) → total (ties_below s n) k ≡ sum_below n (λ v. k (tie_at v Rightward)) + sum_below n (λ v. k (tie_at v Downward))
 by_cells s k zero h = refl
 by_cells s k (suc n) h =
     omega (arith, total_append (ties_below s n) (ties_of s n) k, by_cells s k n (λ v d l. h v d (omega arith)), one_cell s k n (λ d. h n d (omega arith)))
 
 -- ---- a sum of which one place counts at most
 
-sum_none : (n : ℕ) (f : ℕ → ℕ) → ((v : ℕ) → v < n → f v ≡ 0) → sum n f ≡ 0
+sum_none : (n : ℕ) (f : ℕ → ℕ) → ((v : ℕ) → v < n → f v ≡ 0) → sum_below n f ≡ 0
 sum_none n f h = sum_same n f (λ _. 0) h ∙ sum_zero n
 
 -- the place that lies k before u
-sum_before : (n k u : ℕ) (q : ℕ → Bool) (f : ℕ → ℕ) → u < n → sum n (λ v. cond (eqb (v + k) u && q v) (f v) 0) ≡ cond (leb k u) (cond (q (u - k)) (f (u - k)) 0) 0
+sum_before : (n k u : ℕ) (q : ℕ → Bool) (f : ℕ → ℕ) → u < n → sum_below n (λ v. cond (eqb (v + k) u && q v) (f v) 0) ≡ cond (leb k u) (cond (q (u - k)) (f (u - k)) 0) 0
 sum_before n k u q f l =
     ⊎_elim
     (λ (e : u < k). rw (lt-leb k u e) (sum_none n (λ v. cond (eqb (v + k) u && q v) (f v) 0) (λ v j. rw (ne_eqb (v + k) u (λ z. omega arith)))))
@@ -62,7 +62,7 @@ sum_before n k u q f l =
         (cases_eq (v + k) u)
 
 -- the place u itself
-sum_at : (n u : ℕ) (q : ℕ → Bool) (f : ℕ → ℕ) → u < n → sum n (λ v. cond (eqb v u && q v) (f v) 0) ≡ cond (q u) (f u) 0
+sum_at : (n u : ℕ) (q : ℕ → Bool) (f : ℕ → ℕ) → u < n → sum_below n (λ v. cond (eqb v u && q v) (f v) 0) ≡ cond (q u) (f u) 0
 sum_at n u q f l =
     sum_same n (λ v. cond (eqb v u && q v) (f v) 0) (λ v. cond (eqb u v) (cond (q v) (f v) 0) 0) same ∙ pick_one n u (λ v. cond (q v) (f v) 0) l
   where
@@ -100,7 +100,7 @@ module _ (s : Shape) (t : Tile) (fit : Chargeable s t) (u : ℕ) (l : u < cells 
   nothing false true w e = omega arith
   nothing false false w e = refl
 
-  on_side : (q : ℕ → Bool) (d : Side) → sum (cells s) (λ v. counts q (tie_at v d)) ≡ ahead q d + behind q d
+  on_side : (q : ℕ → Bool) (d : Side) → sum_below (cells s) (λ v. counts q (tie_at v d)) ≡ ahead q d + behind q d
   on_side q Rightward =
       sum_add (cells s) (λ v. cond (eqb v u && q (v + 1)) (stored_tie (cell t v) Rightward) 0) (λ v. cond (eqb (v + 1) u && q v) (stored_tie (cell t v) Rightward) 0)
       ∙ omega (arith, sum_at (cells s) u (λ v. q (v + 1)) (λ v. stored_tie (cell t v) Rightward) l, sum_before (cells s) 1 u q (λ v. stored_tie (cell t v) Rightward) l)

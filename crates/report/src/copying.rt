@@ -9,8 +9,9 @@ ghost use Rattle.report.specs.Copying.{SolveFileIntoDoes};
 use crate::refusing::FileRefusal;
 use crate::solving::{Solution, check_room, solve_by_letter};
 use flow::CutMaker;
+use limits::Refusal;
 use passes::copy_low_ends;
-use tile::{Cell, Refusal, Shape};
+use tile::{Cell, Shape};
 use tilefile::Contents;
 
 // Is there a place for each height?

@@ -1,7 +1,7 @@
 // Why a file is not solved.
+use limits::Refusal;
 use std::error::Error;
 use std::fmt;
-use tile::Refusal;
 use tilefile::Fault;
 
 #[derive(Clone, Copy, PartialEq, Eq, Debug)]

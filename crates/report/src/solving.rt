@@ -12,10 +12,11 @@ ghost use Rattle.report.specs.Solving.{SolvedAs, SolveFileDoes};
 
 use crate::refusing::FileRefusal;
 use flow::CutMaker;
+use limits::Refusal;
 use price::PriceRule;
 use solve::solve;
 use tile::bracket::rounds_due;
-use tile::{Cell, Refusal, Shape};
+use tile::{Cell, Shape};
 use tilefile::{Contents, LetterRule};
 
 // What solving a file came to. The heights are the low ends of the records. Laid out as in C.

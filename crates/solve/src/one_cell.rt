@@ -10,8 +10,9 @@ use crate::refusing::try_outside;
 use crate::solving::solve;
 use filter::{Draft, Level, start};
 use flow::CutMaker;
+use limits::Refusal;
 use price::PriceRule;
-use tile::{Cell, Refusal};
+use tile::Cell;
 
 // Starts a tile of one cell with top 1.
 fn start_one_cell(tile: &mut [Cell]) -> Result<Draft, Refusal>

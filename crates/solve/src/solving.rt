@@ -7,9 +7,10 @@ ghost use Rattle.solve.specs.Solving.{SolveDoes, SolvesRuns, BeginsRounds, Round
 
 use filter::{Draft, Level, Rounding};
 use flow::CutMaker;
+use limits::Refusal;
 use price::PriceRule;
+use tile::Cell;
 use tile::bracket::rounds_due;
-use tile::{Cell, Refusal};
 
 // How many rounds the draft is due.
 fn due_rounds(draft: &Draft) -> u8

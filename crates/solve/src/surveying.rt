@@ -11,8 +11,9 @@ ghost use Rattle.solve.specs.Surveying.{At, WritesSample, WritesSamples, Samples
 use crate::solving::solve;
 use filter::{Draft, Level, start};
 use flow::CutMaker;
+use limits::Refusal;
 use price::PriceRule;
-use tile::{Cell, Refusal};
+use tile::Cell;
 
 // What was surveyed at one cell.
 #[derive(Clone, Copy)]

@@ -5,7 +5,7 @@ use Rattle.std.proofs.Common.{◌≡◌, ℕ, suc, ◌+◌, ◌<◌, ◌≤◌, 
 use borrow.Author.Differences.{up, down, ints}
 use Rattle.std.proofs.ByRecursion.{All-weaker}
 use Rattle.std.proofs.lemmas.Bool.{cases_Bool, lt-ltb, le-ltb, eqb-true, eqb-false, eq-eqb, ne_eqb, and_parts, not-true}
-use Rattle.theory.specs.Sums.{sum, total}
+use Rattle.theory.specs.Sums.{sum_below, total}
 use Rattle.theory.specs.Graphs.{Proper}
 use Rattle.theory.specs.Sets.{CellSet, differ, crosses}
 use Rattle.theory.specs.Grids.{Problem, Heights}
@@ -41,7 +41,7 @@ slot_own true k h m = ⊎_elim (λ (e : eqb k m ≡ true). rw e (ap (λ (x : ℕ
 slot_own false k h m = refl
 
 -- another v at the halved place
-turn : (o : ℕ) (w : Bool) (k h : ℕ) (v v' : Bool) (φ : ℕ → Bool → ℕ) → (w ≡ true → k < o) → sum o (λ m. φ m (slot w k v h m)) + cond w (φ k v') 0 ≡ sum o (λ m. φ m (slot w k v' h m)) + cond w (φ k v) 0
+turn : (o : ℕ) (w : Bool) (k h : ℕ) (v v' : Bool) (φ : ℕ → Bool → ℕ) → (w ≡ true → k < o) → sum_below o (λ m. φ m (slot w k v h m)) + cond w (φ k v') 0 ≡ sum_below o (λ m. φ m (slot w k v' h m)) + cond w (φ k v) 0
 turn o true k h v v' φ l =
     let e = sum_but o k (λ m. φ m (slot true k v h m)) (λ m. φ m (slot true k v' h m)) (l refl) (λ m i n. ap (φ m) (slot_off true k v h m (λ _. n) ∙ sym (slot_off true k v' h m (λ _. n)))) in
     omega (arith, e, ap (φ k) (slot_at k v h), ap (φ k) (slot_at k v' h))
@@ -69,7 +69,7 @@ part_apart up false false v w v' w' p q x h k = grind arith
 
 -- a tie between cells of heights ha and hb with brackets la..ra and lb..rb: its cost over all levels, and in the halving problem
 abbrev F : (o ha hb la ra lb rb x : ℕ) → Bool → Bool → ℕ
-F o ha hb la ra lb rb x v w = sum o (λ m. pay (slot (wide la ra) (middle la ra) v ha m) (slot (wide lb rb) (middle lb rb) w hb m) x x)
+F o ha hb la ra lb rb x v w = sum_below o (λ m. pay (slot (wide la ra) (middle la ra) v ha m) (slot (wide lb rb) (middle lb rb) w hb m) x x)
 
 abbrev R : (la ra lb rb x : ℕ) → Bool → Bool → ℕ
 R la ra lb rb x v w = part (wide la ra) (wide lb rb) (ltb ra lb) (ltb rb la) (eqb la lb && eqb ra rb) v w x
@@ -113,7 +113,7 @@ module _ (o ha hb la ra lb rb x : ℕ) (al : la ≤ ha) (ar : ha ≤ ra) (ac : r
 
 -- ---- one cell
 
-cell_turn : (o k h : ℕ) (w : Bool) (p : ℕ → ℕ) (v v' : Bool) → (w ≡ true → k < o) → sum o (λ m. cond (slot w k v h m) (p (suc m)) (p m)) + cond v' (cond w (p (suc k)) 0) (cond w (p k) 0) ≡ sum o (λ m. cond (slot w k v' h m) (p (suc m)) (p m)) + cond v (cond w (p (suc k)) 0) (cond w (p k) 0)
+cell_turn : (o k h : ℕ) (w : Bool) (p : ℕ → ℕ) (v v' : Bool) → (w ≡ true → k < o) → sum_below o (λ m. cond (slot w k v h m) (p (suc m)) (p m)) + cond v' (cond w (p (suc k)) 0) (cond w (p k) 0) ≡ sum_below o (λ m. cond (slot w k v' h m) (p (suc m)) (p m)) + cond v (cond w (p (suc k)) 0) (cond w (p k) 0)
 cell_turn o k h w p v v' l = omega (arith, turn o w k h v v' (λ m b. cond b (p (suc m)) (p m)) l, inside w v (p (suc k)) (p k), inside w v' (p (suc k)) (p k))
   where
     inside : (w v : Bool) (x y : ℕ) → cond v (cond w x 0) (cond w y 0) ≡ cond w (cond v x y) 0
@@ -147,7 +147,7 @@ module _ {X : Type 0} (p : Problem X) (h : Heights) (b : Brackets) (o : Proper p
 
   -- what a choice costs the levels
   abbrev all : CellSet → ℕ
-  all s = sum p.top (λ m. pays p.graph (level p m) (W s m))
+  all s = sum_below p.top (λ m. pays p.graph (level p m) (W s m))
 
   cellR : CellSet → ℕ → ℕ
   cellR s u = cond (s u) (cond (wide_at b u) (p.price u (suc (mid b u))) 0) (cond (wide_at b u) (p.price u (mid b u)) 0)
@@ -155,7 +155,7 @@ module _ {X : Type 0} (p : Problem X) (h : Heights) (b : Brackets) (o : Proper p
   tieR : CellSet → X → ℕ
   tieR s x = let g = p.graph in R (b.low (g.near x)) (b.high (g.near x)) (b.low (g.far x)) (b.high (g.far x)) (g.weight x) (s (g.near x)) (s (g.far x))
 
-  halves_pay : (s : CellSet) → pays p.graph (halves p b) s ≡ sum p.graph.cells (cellR s) + total p.graph.ties (tieR s)
+  halves_pay : (s : CellSet) → pays p.graph (halves p b) s ≡ sum_below p.graph.cells (cellR s) + total p.graph.ties (tieR s)
   unfolding pays cellR tieR
   halves_pay s =
       let g = p.graph in
@@ -179,19 +179,19 @@ module _ {X : Type 0} (p : Problem X) (h : Heights) (b : Brackets) (o : Proper p
       let t = p.top in
       let C : CellSet → ℕ → ℕ → ℕ = λ s u m. cond (W s m u) (p.price u (suc m)) (p.price u m) in
       let P : CellSet → X → ℕ → ℕ = λ s x m. pay (W s m (g.near x)) (W s m (g.far x)) (g.weight x) (g.weight x) in
-      let cells : sum g.cells (λ u. sum t (C s u)) + sum g.cells (cellR r) ≡ sum g.cells (λ u. sum t (C r u)) + sum g.cells (cellR s)
+      let cells : sum_below g.cells (λ u. sum_below t (C s u)) + sum_below g.cells (cellR r) ≡ sum_below g.cells (λ u. sum_below t (C r u)) + sum_below g.cells (cellR s)
       = sum_eq g.cells _ _ _ _ (λ u l. cell_turn t (mid b u) (h u) (wide_at b u) (p.price u) (s u) (r u)
       (λ e. omega (arith, wide_lt (b.low u) (b.high u) (omega (arith, c.low u l, c.high u l)) e, c.top u l))) in
-      let ties : total g.ties (λ x. sum t (P s x)) + total g.ties (tieR r) ≡ total g.ties (λ x. sum t (P r x)) + total g.ties (tieR s)
+      let ties : total g.ties (λ x. sum_below t (P s x)) + total g.ties (tieR r) ≡ total g.ties (λ x. sum_below t (P r x)) + total g.ties (tieR s)
       = total_eq g.ties _ _ _ _ (All-weaker (Ends g) _ (λ x i.
       tie_part t (h (g.near x)) (h (g.far x)) (b.low (g.near x)) (b.high (g.near x)) (b.low (g.far x)) (b.high (g.far x)) (g.weight x)
       (c.low (g.near x) i.0) (c.high (g.near x) i.0) (c.top (g.near x) i.0) (c.low (g.far x) i.1) (c.high (g.far x) i.1) (c.top (g.far x) i.1)
       (s (g.near x)) (s (g.far x)) (r (g.near x)) (r (g.far x)) (c.apart (g.near x) (g.far x) i.0 i.1)) g.ties (ends g o)) in
-      let split : (s : CellSet) → all s ≡ sum g.cells (λ u. sum t (C s u)) + total g.ties (λ x. sum t (P s x))
-      = λ s. omega (arith, sum_swap g.cells t (C s), total_swap g.ties t (P s), sum_add t (λ m. sum g.cells (λ u. C s u m)) (λ m. total g.ties (λ x. P s x m))) in
+      let split : (s : CellSet) → all s ≡ sum_below g.cells (λ u. sum_below t (C s u)) + total g.ties (λ x. sum_below t (P s x))
+      = λ s. omega (arith, sum_swap g.cells t (C s), total_swap g.ties t (P s), sum_add t (λ m. sum_below g.cells (λ u. C s u m)) (λ m. total g.ties (λ x. P s x m))) in
       omega (arith, cells, ties, split s, split r, halves_pay s, halves_pay r)
 
-  own : all (upper_half b h) ≡ sum p.top (λ m. pays p.graph (level p m) (above h m))
+  own : all (upper_half b h) ≡ sum_below p.top (λ m. pays p.graph (level p m) (above h m))
   own = sum_same p.top _ _ (λ m l. pays_same p.graph (level p m) o _ _ (λ u i. slot_own (wide_at b u) (mid b u) (h u) m))
 
   upper_least : ((m : ℕ) → m < p.top → Least p.graph.cells (pays p.graph (level p m)) (above h m)) → Least p.graph.cells (pays p.graph (halves p b)) (upper_half b h)

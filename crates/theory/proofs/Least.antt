@@ -1,7 +1,7 @@
 -- Functions of cell sets with values in the natural numbers: least values, and the smallest set that takes one.
 use Rattle.std.proofs.Common.{◌≡◌, ℕ, zero, suc, ◌+◌, ◌<◌, ◌≤◌, Bool, true, false, cond, ◌&&◌, eqb, leb, sym, refl, ap, ◌∙◌, ⊎_elim, arith}
 use Rattle.std.proofs.lemmas.Bool.{cases_lt, cases_Bool, ne_eqb, eq-eqb, and_parts}
-use Rattle.theory.specs.Sums.{sum}
+use Rattle.theory.specs.Sums.{sum_below}
 use Rattle.theory.specs.Sets.{CellSet, Same, Within, meet, join}
 use Rattle.theory.proofs.Sums.{sum_same, sum_tight}
 
@@ -55,7 +55,7 @@ least_value (suc n) F e =
 
 -- how many of the first n cells are inside
 abbrev size : ℕ → CellSet → ℕ
-size n s = sum n (λ u. cond (s u) 1 0)
+size n s = sum_below n (λ u. cond (s u) 1 0)
 
 size_le : (n : ℕ) (s : CellSet) → size n s ≤ n
 size_le zero s = omega arith

@@ -3,7 +3,7 @@ use Rattle.std.proofs.Common.{◌≡◌, ℕ, zero, suc, ◌+◌, ◌-◌, ◌*�
 use borrow.Author.Differences.{up, down, ints}
 use Rattle.std.proofs.ByRecursion.{All-weaker}
 use Rattle.std.proofs.lemmas.Bool.{cases_lt, cases_Bool, lt-ltb, le-ltb, ltb-true, ltb-false, true≢false}
-use Rattle.theory.specs.Sums.{sum, total}
+use Rattle.theory.specs.Sums.{sum_below, total}
 use Rattle.theory.specs.Graphs.{Graph, Proper}
 use Rattle.theory.specs.Sets.{CellSet, cost, SmallestCheapestSet}
 use Rattle.theory.specs.Grids.{Problem, Heights, gap, energy, Grid, step, StepsNeverFall}
@@ -15,32 +15,32 @@ use Rattle.theory.proofs.Sets.{smallest_exists, compared}
 
 -- ---- one cell and one tie, level by level
 
-tele_low : (t h : ℕ) (p : ℕ → ℕ) → t ≤ h → sum t (λ m. cond (ltb m h) (p (suc m)) (p m)) + p 0 ≡ p t + sum t p
+tele_low : (t h : ℕ) (p : ℕ → ℕ) → t ≤ h → sum_below t (λ m. cond (ltb m h) (p (suc m)) (p m)) + p 0 ≡ p t + sum_below t p
 tele_low zero h p l = omega arith
 tele_low (suc t) h p l = rw (lt-ltb t h l) (omega (arith, tele_low t h p (omega arith)))
 
 -- a cell's prices, step by step up to its height
-tele : (t h : ℕ) (p : ℕ → ℕ) → h ≤ t → sum t (λ m. cond (ltb m h) (p (suc m)) (p m)) + p 0 ≡ p h + sum t p
+tele : (t h : ℕ) (p : ℕ → ℕ) → h ≤ t → sum_below t (λ m. cond (ltb m h) (p (suc m)) (p m)) + p 0 ≡ p h + sum_below t p
 tele zero h p l = let e : h ≡ 0 = omega arith in omega (arith, ap p e)
 tele (suc t) h p l =
     ⊎_elim
-    (λ (k : t < h). let e : h ≡ suc t = omega arith in tele_low (suc t) h p (omega arith) ∙ ap (λ (v : ℕ). p v + sum (suc t) p) (sym e))
+    (λ (k : t < h). let e : h ≡ suc t = omega arith in tele_low (suc t) h p (omega arith) ∙ ap (λ (v : ℕ). p v + sum_below (suc t) p) (sym e))
     (λ (k : h ≤ t). rw (le-ltb t h k) (omega (arith, tele t h p k)))
     (cases_lt t h)
 
 -- a tie's weight, once for each level that parts its ends
-span : (t a b w : ℕ) → sum t (λ m. pay (ltb m a) (ltb m b) w w) ≡ w * gap (min a t) (min b t)
+span : (t a b w : ℕ) → sum_below t (λ m. pay (ltb m a) (ltb m b) w w) ≡ w * gap (min a t) (min b t)
 span zero a b w = let e : gap (min a 0) (min b 0) ≡ 0 = omega arith in rw e (omega arith)
 span (suc t) a b w = go (ltb t a) (ltb t b) refl refl (span t a b w)
   where
-    go : (x y : Bool) → ltb t a ≡ x → ltb t b ≡ y → sum t (λ m. pay (ltb m a) (ltb m b) w w) ≡ w * gap (min a t) (min b t) →
-        sum t (λ m. pay (ltb m a) (ltb m b) w w) + pay (ltb t a) (ltb t b) w w ≡ w * gap (min a (suc t)) (min b (suc t))
+    go : (x y : Bool) → ltb t a ≡ x → ltb t b ≡ y → sum_below t (λ m. pay (ltb m a) (ltb m b) w w) ≡ w * gap (min a t) (min b t) →
+        sum_below t (λ m. pay (ltb m a) (ltb m b) w w) + pay (ltb t a) (ltb t b) w w ≡ w * gap (min a (suc t)) (min b (suc t))
     go true true i k ih = let d : gap (min a (suc t)) (min b (suc t)) ≡ gap (min a t) (min b t) = omega (arith, ltb-true t a i, ltb-true t b k) in rw (i, k, d) (omega (arith, ih))
     go true false i k ih = let d : gap (min a (suc t)) (min b (suc t)) ≡ suc (gap (min a t) (min b t)) = omega (arith, ltb-true t a i, ltb-false t b k) in rw (i, k, d) (omega (arith, ih))
     go false true i k ih = let d : gap (min a (suc t)) (min b (suc t)) ≡ suc (gap (min a t) (min b t)) = omega (arith, ltb-false t a i, ltb-true t b k) in rw (i, k, d) (omega (arith, ih))
     go false false i k ih = let d : gap (min a (suc t)) (min b (suc t)) ≡ gap (min a t) (min b t) = omega (arith, ltb-false t a i, ltb-false t b k) in rw (i, k, d) (omega (arith, ih))
 
-span_all : (t a b w : ℕ) → a ≤ t → b ≤ t → sum t (λ m. pay (ltb m a) (ltb m b) w w) ≡ w * gap a b
+span_all : (t a b w : ℕ) → a ≤ t → b ≤ t → sum_below t (λ m. pay (ltb m a) (ltb m b) w w) ≡ w * gap a b
 span_all t a b w h k =
     let i : min a t ≡ a = omega arith in
     let j : min b t ≡ b = omega arith in
@@ -56,7 +56,7 @@ pub level_stands : {X : Type 0} (p : Problem X) (m : ℕ) → StandsFor p.graph 
 level_stands p m = stands p.graph (level p m) p.graph (step p m) refl (λ u l. omega (arith, ints)) (ties_as p.graph)
 
 pub levels : {X : Type 0} (p : Problem X) (h : Heights) → Proper p.graph → Grid p h →
-    energy p h + sum p.top (λ m. sum p.graph.cells (λ u. p.price u m)) ≡ sum p.graph.cells (λ u. p.price u 0) + sum p.top (λ m. pays p.graph (level p m) (above h m))
+    energy p h + sum_below p.top (λ m. sum_below p.graph.cells (λ u. p.price u m)) ≡ sum_below p.graph.cells (λ u. p.price u 0) + sum_below p.top (λ m. pays p.graph (level p m) (above h m))
 unfolding energy pays
 levels {X} p h o f =
     let g = p.graph in
@@ -65,13 +65,13 @@ levels {X} p h o f =
     let t = p.top in
     let C : ℕ → ℕ → ℕ = λ u k. cond (ltb k (h u)) (p.price u (suc k)) (p.price u k) in
     let P : X → ℕ → ℕ = λ x k. pay (ltb k (h (g.near x))) (ltb k (h (g.far x))) (g.weight x) (g.weight x) in
-    let cells : sum n (λ u. sum t (C u)) + sum n (λ u. p.price u 0) ≡ sum n (λ u. p.price u (h u)) + sum n (λ u. sum t (p.price u))
+    let cells : sum_below n (λ u. sum_below t (C u)) + sum_below n (λ u. p.price u 0) ≡ sum_below n (λ u. p.price u (h u)) + sum_below n (λ u. sum_below t (p.price u))
     = sum_eq n _ _ _ _ (λ u l. tele t (h u) (p.price u) (f u l)) in
-    let ties : total xs (λ x. sum t (P x)) ≡ total xs (λ x. g.weight x * gap (h (g.near x)) (h (g.far x)))
+    let ties : total xs (λ x. sum_below t (P x)) ≡ total xs (λ x. g.weight x * gap (h (g.near x)) (h (g.far x)))
     = total_same xs _ _ (All-weaker (Ends g) _ (λ x i. span_all t (h (g.near x)) (h (g.far x)) (g.weight x) (f (g.near x) i.0) (f (g.far x) i.1)) xs (ends g o)) in
-    omega (arith, cells, ties, sum_swap n t C, total_swap xs t P, sum_swap n t p.price, sum_add t (λ k. sum n (λ u. C u k)) (λ k. total xs (λ x. P x k)))
+    omega (arith, cells, ties, sum_swap n t C, total_swap xs t P, sum_swap n t p.price, sum_add t (λ k. sum_below n (λ u. C u k)) (λ k. total xs (λ x. P x k)))
 
-flat_energy : {X : Type 0} (p : Problem X) → energy p (λ _. 0) ≡ sum p.graph.cells (λ u. p.price u 0)
+flat_energy : {X : Type 0} (p : Problem X) → energy p (λ _. 0) ≡ sum_below p.graph.cells (λ u. p.price u 0)
 unfolding energy
 flat_energy p =
     let g = p.graph in
@@ -80,7 +80,7 @@ flat_energy p =
 pub energy_levels : {X : Type 0} → EnergyIsTheSumOfItsLevels X
 energy_levels p h o f =
     let c : ℕ → ℤ = λ m. cost p.graph (step p m) (above h m) in
-    let e = sum_eq p.top (λ m. up (c m)) (λ m. sum p.graph.cells (λ u. p.price u m)) (λ m. down (c m)) (λ m. pays p.graph (level p m) (above h m)) (λ m l. level_stands p m (above h m)) in
+    let e = sum_eq p.top (λ m. up (c m)) (λ m. sum_below p.graph.cells (λ u. p.price u m)) (λ m. down (c m)) (λ m. pays p.graph (level p m) (above h m)) (λ m l. level_stands p m (above h m)) in
     omega (arith, ints, e, sumℤ_is p.top c, levels p h o f, flat_energy p)
 
 -- ---- a grid whose levels are smallest is the lowest cheapest
@@ -111,7 +111,7 @@ stacked_lowest {X} p h o f k = record {
 -- ---- there is such a grid: how many of the levels' sets hold the cell
 
 abbrev count : ℕ → (ℕ → Bool) → ℕ
-count t f = sum t (λ m. cond (f m) 1 0)
+count t f = sum_below t (λ m. cond (f m) 1 0)
 
 -- true first, and false from some place on
 abbrev Falls : ℕ → (ℕ → Bool) → Type 0

@@ -1,7 +1,7 @@
 -- Energies and costs look at cells and ties alone.
 use Rattle.std.proofs.Common.{◌≡◌, ℕ, zero, suc, ◌+◌, ◌*◌, ◌<◌, ◌≤◌, cond, ℤ, pos, ◌+ℤ◌, ◌≤ℤ◌, sym, refl, ap, subst, ap₂, arith}
 use Rattle.std.specs.List.{ContainsAt as Has}
-use Rattle.theory.specs.Sums.{sum, sumℤ, total}
+use Rattle.theory.specs.Sums.{sum_below, sumℤ, total}
 use Rattle.theory.specs.Graphs.{Graph, Proper}
 use Rattle.theory.specs.Sets.{CellSet, Charges, crosses, cost, SmallestCheapestSet}
 use Rattle.theory.specs.Grids.{Problem, Heights, gap, tie_cost, energy, CheapestGrid, LowestCheapestGrid}
@@ -11,7 +11,7 @@ use Rattle.theory.proofs.Sums.{for_all, sum_same, total_same}
 pub energy_same : {X : Type 0} (p : Problem X) (h k : Heights) → Proper p.graph → ((u : ℕ) → u < p.graph.cells → h u ≡ k u) → energy p h ≡ energy p k
 unfolding energy
 energy_same p h k o e =
-    let cells : sum p.graph.cells (λ u. p.price u (h u)) ≡ sum p.graph.cells (λ u. p.price u (k u)) =
+    let cells : sum_below p.graph.cells (λ u. p.price u (h u)) ≡ sum_below p.graph.cells (λ u. p.price u (k u)) =
     sum_same p.graph.cells _ _ (λ u l. ap (p.price u) (e u l)) in
     let ties : total p.graph.ties (tie_cost p.graph h) ≡ total p.graph.ties (tie_cost p.graph k) =
     total_same p.graph.ties _ _ (for_all _ p.graph.ties (λ x i. rw (e (p.graph.near x) (o x i).0, e (p.graph.far x) (o x i).1))) in
@@ -60,7 +60,7 @@ reweighted p w = record { graph = with_weights p.graph w; top = p.top; price = p
 energy_reweighted : {X : Type 0} (p : Problem X) (w : X → ℕ) (h : Heights) → ((x : X) → Has p.graph.ties x → p.graph.weight x ≡ w x) → energy p h ≡ energy (reweighted p w) h
 unfolding energy
 energy_reweighted p w h e =
-    ap (λ (n : ℕ). sum p.graph.cells (λ u. p.price u (h u)) + n)
+    ap (λ (n : ℕ). sum_below p.graph.cells (λ u. p.price u (h u)) + n)
     (total_same p.graph.ties _ _ (for_all _ p.graph.ties (λ x i. ap (λ (n : ℕ). n * gap (h (p.graph.near x)) (h (p.graph.far x))) (e x i))))
 
 -- weights that agree at all ties leave the lowest cheapest grid

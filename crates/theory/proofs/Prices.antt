@@ -4,7 +4,7 @@ use Rattle.std.proofs.Common.{◌≡◌, ℕ, ◌+◌, ◌<◌, ◌≤◌, Bool,
 use borrow.Author.Differences.{up, down, ints}
 use Rattle.std.specs.List.{AllByRecursion as All}
 use Rattle.std.proofs.ByRecursion.{All-weaker}
-use Rattle.theory.specs.Sums.{sum, total}
+use Rattle.theory.specs.Sums.{sum_below, total}
 use Rattle.theory.specs.Graphs.{Graph, Proper}
 use Rattle.theory.specs.Sets.{CellSet, Charges, Same, meet, join, differ, crosses, cost, SmallestCheapestSet}
 use Rattle.theory.proofs.Sums.{for_all, sum_le, sum_eq, sum_same, sum_add, total_le, total_same, total_add, sumℤ_is, at, gather}
@@ -24,7 +24,7 @@ pay false true x y = y
 pay false false x y = 0
 
 abbrev pub cells_pay : {X : Type 0} → Graph X → Prices X → CellSet → ℕ
-cells_pay g p s = sum g.cells (λ u. cond (s u) (p.taken u) (p.left u))
+cells_pay g p s = sum_below g.cells (λ u. cond (s u) (p.taken u) (p.left u))
 
 abbrev pub tie_pays : {X : Type 0} → Graph X → Prices X → CellSet → X → ℕ
 tie_pays g p s x = pay (s (g.near x)) (s (g.far x)) (p.forth x) (p.back x)
@@ -78,7 +78,7 @@ mixed g p q s t same eager =
 
 -- on the graph g with charges c every set costs as much as it pays on k, less one number
 abbrev pub StandsFor : {X : Type 0} → Graph X → Prices X → Graph X → Charges → Type 0
-StandsFor k p g c = (s : CellSet) → up (cost g c s) + sum g.cells p.left ≡ down (cost g c s) + pays k p s
+StandsFor k p g c = (s : CellSet) → up (cost g c s) + sum_below g.cells p.left ≡ down (cost g c s) + pays k p s
 
 module _ {X : Type 0} (k : Graph X) (p : Prices X) (g : Graph X) (c : Charges) (e : StandsFor k p g c) where
   pub to_set : (s : CellSet) → Least g.cells (pays k p) s → SmallestCheapestSet g c s
@@ -111,7 +111,7 @@ unfolding cost pays
 stands k p g c same cells ties s =
     let n = g.cells in
     let e = sum_eq n (λ u. up (cond (s u) (c u) (pos 0))) p.left (λ u. down (cond (s u) (c u) (pos 0))) (λ u. cond (s u) (p.taken u) (p.left u)) (λ u l. cell_is (s u) (c u) _ _ (cells u l)) in
-    let d : cells_pay k p s ≡ sum n (λ u. cond (s u) (p.taken u) (p.left u)) = ap (λ (m : ℕ). sum m (λ u. cond (s u) (p.taken u) (p.left u))) same in
+    let d : cells_pay k p s ≡ sum_below n (λ u. cond (s u) (p.taken u) (p.left u)) = ap (λ (m : ℕ). sum_below m (λ u. cond (s u) (p.taken u) (p.left u))) same in
     omega (arith, ints, e, d, ties s, sumℤ_is n (λ u. cond (s u) (c u) (pos 0)))
 
 -- the prices of a graph with charges
@@ -131,8 +131,8 @@ cond_three true t t' t'' l l' l'' = refl
 cond_three false t t' t'' l l' l'' = refl
 
 pub brought : {X : Type 0} (g : Graph X) (s : CellSet) (t l : ℕ → ℕ) (a a' b b' : X → ℕ) → Proper g →
-    sum g.cells (λ u. cond (s u) (t u + at g.ties g.near a u + at g.ties g.far b u) (l u + at g.ties g.near a' u + at g.ties g.far b' u))
-    ≡ sum g.cells (λ u. cond (s u) (t u) (l u)) + total g.ties (λ x. cond (s (g.near x)) (a x) (a' x) + cond (s (g.far x)) (b x) (b' x))
+    sum_below g.cells (λ u. cond (s u) (t u + at g.ties g.near a u + at g.ties g.far b u) (l u + at g.ties g.near a' u + at g.ties g.far b' u))
+    ≡ sum_below g.cells (λ u. cond (s u) (t u) (l u)) + total g.ties (λ x. cond (s (g.near x)) (a x) (a' x) + cond (s (g.far x)) (b x) (b' x))
 brought {X} g s t l a a' b b' o =
     let n = g.cells in
     let xs = g.ties in
@@ -141,7 +141,7 @@ brought {X} g s t l a a' b b' o =
     let C : ℕ → ℕ = λ u. cond (s u) (t u) (l u) in
     let P : X → ℕ = λ x. cond (s (g.near x)) (a x) (a' x) in
     let Q : X → ℕ = λ x. cond (s (g.far x)) (b x) (b' x) in
-    let e : sum n (λ u. cond (s u) (t u + at xs g.near a u + at xs g.far b u) (l u + at xs g.near a' u + at xs g.far b' u)) ≡ sum n (λ u. C u + A u + B u) = sum_same n _ _ (λ u i. cond_three (s u) _ _ _ _ _ _) in
+    let e : sum_below n (λ u. cond (s u) (t u + at xs g.near a u + at xs g.far b u) (l u + at xs g.near a' u + at xs g.far b' u)) ≡ sum_below n (λ u. C u + A u + B u) = sum_same n _ _ (λ u i. cond_three (s u) _ _ _ _ _ _) in
     let near : All (λ x. g.near x < n) xs = All-weaker (Ends g) _ (λ x i. i.0) xs (ends g o) in
     let far : All (λ x. g.far x < n) xs = All-weaker (Ends g) _ (λ x i. i.1) xs (ends g o) in
     omega (arith, e, sum_add n (λ u. C u + A u) B, sum_add n C A, total_add xs P Q, gather n xs s g.near a a' near, gather n xs s g.far b b' far)

@@ -4,7 +4,7 @@ use borrow.Author.Differences.{up, down, ints}
 use Rattle.std.specs.List.{ContainsAt as Has, AllByRecursion as All}
 use Rattle.std.proofs.ByRecursion.{All-weaker, all_has_itself}
 use Rattle.std.proofs.lemmas.Bool.{cases_lt, cases_Bool, ne_eqb, eq-eqb}
-use Rattle.theory.specs.Sums.{sum, sumℤ, total, totalℤ}
+use Rattle.theory.specs.Sums.{sum_below, sumℤ, total, totalℤ}
 
 -- what holds of each element of a list holds all along it
 pub for_all : {X : Type 0} (P : X → Type 0) (xs : List X) → ((x : X) → Has xs x → P x) → All P xs
@@ -12,46 +12,46 @@ for_all P xs h = All-weaker (Has xs) P h xs (all_has_itself xs)
 
 -- ---- sums below a number
 
-pub sum_le : (n : ℕ) (f g h k : ℕ → ℕ) → ((u : ℕ) → u < n → f u + g u ≤ h u + k u) → sum n f + sum n g ≤ sum n h + sum n k
+pub sum_le : (n : ℕ) (f g h k : ℕ → ℕ) → ((u : ℕ) → u < n → f u + g u ≤ h u + k u) → sum_below n f + sum_below n g ≤ sum_below n h + sum_below n k
 sum_le zero f g h k le = omega arith
 sum_le (suc n) f g h k le = omega (arith, sum_le n f g h k (λ u l. le u (omega arith)), le n (omega arith))
 
-pub sum_eq : (n : ℕ) (f g h k : ℕ → ℕ) → ((u : ℕ) → u < n → f u + g u ≡ h u + k u) → sum n f + sum n g ≡ sum n h + sum n k
+pub sum_eq : (n : ℕ) (f g h k : ℕ → ℕ) → ((u : ℕ) → u < n → f u + g u ≡ h u + k u) → sum_below n f + sum_below n g ≡ sum_below n h + sum_below n k
 sum_eq zero f g h k e = refl
 sum_eq (suc n) f g h k e = omega (arith, sum_eq n f g h k (λ u l. e u (omega arith)), e n (omega arith))
 
-pub sum_mono : (n : ℕ) (f g : ℕ → ℕ) → ((u : ℕ) → u < n → f u ≤ g u) → sum n f ≤ sum n g
+pub sum_mono : (n : ℕ) (f g : ℕ → ℕ) → ((u : ℕ) → u < n → f u ≤ g u) → sum_below n f ≤ sum_below n g
 sum_mono zero f g le = omega arith
 sum_mono (suc n) f g le = omega (arith, sum_mono n f g (λ u l. le u (omega arith)), le n (omega arith))
 
-pub sum_same : (n : ℕ) (f g : ℕ → ℕ) → ((u : ℕ) → u < n → f u ≡ g u) → sum n f ≡ sum n g
+pub sum_same : (n : ℕ) (f g : ℕ → ℕ) → ((u : ℕ) → u < n → f u ≡ g u) → sum_below n f ≡ sum_below n g
 sum_same zero f g e = refl
 sum_same (suc n) f g e = omega (arith, sum_same n f g (λ u l. e u (omega arith)), e n (omega arith))
 
-pub sum_add : (n : ℕ) (f g : ℕ → ℕ) → sum n (λ u. f u + g u) ≡ sum n f + sum n g
+pub sum_add : (n : ℕ) (f g : ℕ → ℕ) → sum_below n (λ u. f u + g u) ≡ sum_below n f + sum_below n g
 sum_add zero f g = refl
 sum_add (suc n) f g = omega (arith, sum_add n f g)
 
-pub sum_zero : (n : ℕ) → sum n (λ _. 0) ≡ 0
+pub sum_zero : (n : ℕ) → sum_below n (λ _. 0) ≡ 0
 sum_zero zero = refl
 sum_zero (suc n) = omega (arith, sum_zero n)
 
-pub sum_swap : (n m : ℕ) (f : ℕ → ℕ → ℕ) → sum n (λ u. sum m (λ k. f u k)) ≡ sum m (λ k. sum n (λ u. f u k))
+pub sum_swap : (n m : ℕ) (f : ℕ → ℕ → ℕ) → sum_below n (λ u. sum_below m (λ k. f u k)) ≡ sum_below m (λ k. sum_below n (λ u. f u k))
 sum_swap zero m f = sym (sum_zero m)
-sum_swap (suc n) m f = omega (arith, sum_swap n m f, sum_add m (λ k. sum n (λ u. f u k)) (λ k. f n k))
+sum_swap (suc n) m f = omega (arith, sum_swap n m f, sum_add m (λ k. sum_below n (λ u. f u k)) (λ k. f n k))
 
 -- sums in order place by place, and equal as a whole, are equal at each place
-pub sum_tight : (n : ℕ) (f g : ℕ → ℕ) → ((u : ℕ) → u < n → f u ≤ g u) → sum n g ≤ sum n f → (u : ℕ) → u < n → g u ≤ f u
+pub sum_tight : (n : ℕ) (f g : ℕ → ℕ) → ((u : ℕ) → u < n → f u ≤ g u) → sum_below n g ≤ sum_below n f → (u : ℕ) → u < n → g u ≤ f u
 sum_tight zero f g le e u l = absurd (omega arith)
 sum_tight (suc n) f g le e u l =
-    let m : sum n f ≤ sum n g = sum_mono n f g (λ v k. le v (omega arith)) in
+    let m : sum_below n f ≤ sum_below n g = sum_mono n f g (λ v k. le v (omega arith)) in
     let ln : f n ≤ g n = le n (omega arith) in
     let ih : u < n → g u ≤ f u = λ k. sum_tight n f g (λ v j. le v (omega arith)) (omega arith) u k in
     let last : g n ≤ f n = omega arith in
     ⊎_elim ih (λ (k : n ≤ u). subst (λ (v : ℕ). g v ≤ f v) (omega arith) last) (cases_lt u n)
 
 -- sums that differ at one place
-pub sum_but : (o k : ℕ) (f g : ℕ → ℕ) → k < o → ((m : ℕ) → m < o → (k ≡ m → ⊥) → f m ≡ g m) → sum o f + g k ≡ sum o g + f k
+pub sum_but : (o k : ℕ) (f g : ℕ → ℕ) → k < o → ((m : ℕ) → m < o → (k ≡ m → ⊥) → f m ≡ g m) → sum_below o f + g k ≡ sum_below o g + f k
 sum_but zero k f g l h = absurd (omega arith)
 sum_but (suc o) k f g l h =
     ⊎_elim
@@ -60,11 +60,11 @@ sum_but (suc o) k f g l h =
     (cases_lt k o)
 
 -- one place of all
-pick_none : (n a : ℕ) (f : ℕ → ℕ) → n ≤ a → sum n (λ u. cond (eqb a u) (f u) 0) ≡ 0
+pick_none : (n a : ℕ) (f : ℕ → ℕ) → n ≤ a → sum_below n (λ u. cond (eqb a u) (f u) 0) ≡ 0
 pick_none zero a f h = refl
 pick_none (suc n) a f h = rw (ne_eqb a n (omega arith)) (omega (arith, pick_none n a f (omega arith)))
 
-pub pick_one : (n a : ℕ) (f : ℕ → ℕ) → a < n → sum n (λ u. cond (eqb a u) (f u) 0) ≡ f a
+pub pick_one : (n a : ℕ) (f : ℕ → ℕ) → a < n → sum_below n (λ u. cond (eqb a u) (f u) 0) ≡ f a
 pick_one zero a f h = absurd (omega arith)
 pick_one (suc n) a f h =
     ⊎_elim
@@ -73,7 +73,7 @@ pick_one (suc n) a f h =
     (cases_lt a n)
 
 -- a signed sum, by what is above 0 and what is below
-pub sumℤ_is : (n : ℕ) (f : ℕ → ℤ) → up (sumℤ n f) + sum n (λ u. down (f u)) ≡ down (sumℤ n f) + sum n (λ u. up (f u))
+pub sumℤ_is : (n : ℕ) (f : ℕ → ℤ) → up (sumℤ n f) + sum_below n (λ u. down (f u)) ≡ down (sumℤ n f) + sum_below n (λ u. up (f u))
 sumℤ_is zero f = refl
 sumℤ_is (suc n) f = omega (arith, ints, sumℤ_is n f)
 
@@ -108,7 +108,7 @@ total_append [] ys f = omega arith
 total_append (x ∷ xs) ys f = omega (arith, total_append xs ys f)
 
 -- a list of sums is a sum of lists
-pub total_swap : {X : Type 0} (xs : List X) (m : ℕ) (f : X → ℕ → ℕ) → total xs (λ x. sum m (λ k. f x k)) ≡ sum m (λ k. total xs (λ x. f x k))
+pub total_swap : {X : Type 0} (xs : List X) (m : ℕ) (f : X → ℕ → ℕ) → total xs (λ x. sum_below m (λ k. f x k)) ≡ sum_below m (λ k. total xs (λ x. f x k))
 total_swap [] m f = sym (sum_zero m)
 total_swap (x ∷ xs) m f = omega (arith, total_swap xs m f, sum_add m (λ k. f x k) (λ k. total xs (λ y. f y k)))
 
@@ -144,7 +144,7 @@ spread xs u a k k' false = refl
 
 -- summed over the cells it is a sum over the list
 pub gather : {X : Type 0} (n : ℕ) (xs : List X) (s : ℕ → Bool) (a k k' : X → ℕ) → All (λ x. a x < n) xs →
-    sum n (λ u. cond (s u) (at xs a k u) (at xs a k' u)) ≡ total xs (λ x. cond (s (a x)) (k x) (k' x))
+    sum_below n (λ u. cond (s u) (at xs a k u) (at xs a k' u)) ≡ total xs (λ x. cond (s (a x)) (k x) (k' x))
 gather n xs s a k k' h =
     sum_same n _ _ (λ u l. spread xs u a k k' (s u))
     ∙ sym (total_swap xs n (λ x u. cond (eqb (a x) u) (cond (s u) (k x) (k' x)) 0))

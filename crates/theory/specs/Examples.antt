@@ -1,6 +1,6 @@
 -- Examples in numbers, which pin the definitions, and in which all hypotheses of the theorems are met.
 use Rattle.std.specs.Prelude.{◌≡◌, ℕ, ◌*◌, ◌<◌, true, false, cond, [], ◌∷◌, pos, neg_ℤ, ◌≤ℤ◌, ◌==◌}
-use Rattle.theory.specs.Sums.{sum, sumℤ, total, totalℤ}
+use Rattle.theory.specs.Sums.{sum_below, sumℤ, total, totalℤ}
 use Rattle.theory.specs.Graphs.{Graph, Proper, only}
 use Rattle.theory.specs.Sets.{CellSet, Charges, meet, join, cost, CheapestSet, SmallestCheapestSet}
 use Rattle.theory.specs.Flows.{Flow, leaving, remainder, Deficit, Surplus, Residual, Reached, WithinWeights, Certified}
@@ -16,7 +16,7 @@ pair a b u = cond (u == 0) a b
 -- ---- sums: 0 + 1 + 2 + 3, and 3 + 5; 11 − 9 both ways
 
 pub record SumsAddUp : Type 0 where
-  pub below_four : sum 4 (λ n. n) ≡ 6
+  pub below_four : sum_below 4 (λ n. n) ≡ 6
   pub of_a_list : total (3 ∷ 5 ∷ []) (λ n. n) ≡ 8
   pub signed_below_two : sumℤ 2 two_charges ≡ pos 2
   pub signed_of_a_list : totalℤ (0 ∷ 1 ∷ []) two_charges ≡ pos 2

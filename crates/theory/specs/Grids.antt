@@ -1,6 +1,6 @@
 -- Grids of heights, their energy, and the lowest of the cheapest.
 use Rattle.std.specs.Prelude.{ℕ, suc, ◌+◌, ◌-◌, ◌*◌, ◌<◌, ◌≤◌, ℤ, pos, ◌-ℤ◌, ◌≤ℤ◌}
-use Rattle.theory.specs.Sums.{sum, total}
+use Rattle.theory.specs.Sums.{sum_below, total}
 use Rattle.theory.specs.Graphs.{Graph}
 
 -- what is to be made cheapest: a graph, the greatest height, and the price of each cell at each height
@@ -23,7 +23,7 @@ tie_cost g h x = g.weight x * gap (h (g.near x)) (h (g.far x))
 
 -- the prices of all heights, plus what all ties cost
 unfoldable pub energy : {X : Type 0} → Problem X → Heights → ℕ
-energy p h = sum p.graph.cells (λ u. p.price u (h u)) + total p.graph.ties (tie_cost p.graph h)
+energy p h = sum_below p.graph.cells (λ u. p.price u (h u)) + total p.graph.ties (tie_cost p.graph h)
 
 -- a grid has heights from 0 to top
 abbrev pub Grid : {X : Type 0} → Problem X → Heights → Type 0

@@ -4,7 +4,7 @@ use Rattle.std.specs.List.{sum_by, range_with_len}
 use Rattle.std.proofs.lemmas.Nat.{mul-le}
 use Rattle.std.proofs.lemmas.List.FromFn.{sum_by-map-range_with_len_more}
 use Rattle.price.specs.Rules.{Rule, priced}
-use Rattle.theory.specs.Sums.{sum, total}
+use Rattle.theory.specs.Sums.{sum_below, total}
 use Rattle.theory.specs.Grids.{Heights, tie_cost, energy}
 use Rattle.theory.proofs.Sums.{total_append}
 use Rattle.tile.specs.declared.shape.Shape.{Shape}
@@ -19,7 +19,7 @@ cells_few s = mul-le s.rows s.columns 256 64 s.tall.1 s.wide.1
 
 -- what the first n cells cost
 abbrev costs_below : Rule → Shape → Survey → Heights → ℕ → ℕ
-costs_below rule s y h n = sum n (λ u. priced rule (y.reading u) (y.class u) (h u)) + total (ties_below s n) (tie_cost (graph s y.tie) h)
+costs_below rule s y h n = sum_below n (λ u. priced rule (y.reading u) (y.class u) (h u)) + total (ties_below s n) (tie_cost (graph s y.tie) h)
 
 -- the costs of the first n cells, added up
 costs_listed : (rule : Rule) (s : Shape) (y : Survey) (h : Heights) (n : ℕ) → sum_by (λ c. c) (map (cell_cost rule s y h) (range_with_len 0 n)) ≡ costs_below rule s y h n

@@ -14,7 +14,6 @@ mod tests;
 pub use bracket::Bracket;
 pub use cell::Cell;
 pub use grid::{HeightGrid, HeightList};
-pub use limits::Refusal;
 pub use rating::energy;
 pub use shape::Shape;
 pub use side::Side;

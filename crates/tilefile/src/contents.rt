@@ -13,7 +13,8 @@ use crate::laying::lay;
 use crate::letter::Letter;
 use crate::reader::Reader;
 use filter::{Draft, start};
-use tile::{Cell, Refusal, Shape};
+use limits::Refusal;
+use tile::{Cell, Shape};
 
 // A file without a fault: its letter, its shape, and the file from its section Readings on and from Ties on.
 #[derive(Clone, Copy)]

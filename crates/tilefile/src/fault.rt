@@ -2,9 +2,9 @@
 ghost use Rattle.std.specs.Prelude.{◌≡◌};
 ghost use Rattle.tilefile.specs.Faults.{section_number, flaw_number, inner_number};
 
+use limits::Refusal;
 use std::error::Error;
 use std::fmt;
-use tile::Refusal;
 
 // The sections of a file, in their order.
 #[derive(Clone, Copy, PartialEq, Eq, Debug)]

@@ -1,7 +1,8 @@
 use crate::{Contents, Fault, Flaw, Letter, Section, read_tile};
+use limits::Refusal;
 use std::process::Abort;
 use std::test::Fail;
-use tile::{Cell, Refusal};
+use tile::Cell;
 
 // What the records hold before a file is read: anything.
 const JUNK: Cell = Cell {

@@ -7,7 +7,8 @@ ghost use Rattle.flow.specs.Points.{Cuttable};
 
 use cut::{AugmentingPaths, PushRelabel, Step};
 use flow::{check_cut, run_cut};
-use tile::{Cell, Refusal, Shape};
+use limits::Refusal;
+use tile::{Cell, Shape};
 
 // Cuts two copies of a tile, one by each maker. Refuses as `check_cut` does, the first copy before the second, and then cuts
 // nothing. On equal copies the two makers mark the same cells.

@@ -8,9 +8,10 @@ ghost use Rattle.passes.specs.Writing.{weights};
 ghost use Rattle.filter.specs.Checks.{Inside, place, TileChecked, PutChecked, TieChecked, RoundChecked, FinishChecked, HeightChecked, CostChecked};
 
 use crate::states::{Draft, Level, Rounding};
+use limits::Refusal;
 use passes::{are_ties_sound, is_reading_sound, is_sound};
 use tile::bracket::rounds_due;
-use tile::{Cell, Refusal, Shape};
+use tile::{Cell, Shape};
 
 // Is there a record for each cell?
 pub(crate) fn is_whole(shape: Shape, tile: &[Cell]) -> bool

@@ -4,8 +4,9 @@ ghost use Rattle.filter.specs.Copying.{HeightsChecked, HeightsDo};
 
 use crate::states::Level;
 use crate::states::checking::check_tile;
+use limits::Refusal;
 use passes::copy_low_ends;
-use tile::{Cell, Refusal};
+use tile::Cell;
 
 impl Level {
     // May the heights be copied into so many places?

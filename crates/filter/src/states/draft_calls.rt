@@ -9,8 +9,9 @@ ghost use Rattle.filter.specs.Laws.{EveryRunKeepsTheLaw};
 use crate::answers::Refused;
 use crate::states::checking::{check_tile, is_whole};
 use crate::states::{Draft, Rounding};
+use limits::Refusal;
 use passes::{clear, write_reading, write_ties};
-use tile::{Cell, Refusal, Shape};
+use tile::{Cell, Shape};
 
 // Makes the records a new draft: every bracket 0..top, and all else 0.
 pub fn start(rows: usize, columns: usize, top: u16, tile: &mut [Cell]) -> Result<Draft, Refusal>

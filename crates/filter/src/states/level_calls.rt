@@ -8,9 +8,10 @@ ghost use Rattle.filter.specs.Laws.{EveryRunKeepsTheLaw};
 use crate::answers::Refused;
 use crate::states::round_calls::reopen;
 use crate::states::{Draft, Level};
+use limits::Refusal;
 use passes::low_end;
 use price::PriceRule;
-use tile::{Cell, HeightGrid, Refusal, energy};
+use tile::{Cell, HeightGrid, energy};
 
 // The grid of heights that records hold: each cell's low end. `HeightList` is the same over numbers; one implementation for
 // both, over a trait of what has a height, would be longer than the two.

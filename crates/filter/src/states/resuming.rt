@@ -7,7 +7,8 @@ ghost use Rattle.filter.specs.Runs.{draft, rounding, level};
 use crate::states::checking::are_rounds_over;
 use crate::states::{Draft, Level, Rounding};
 use limits::MAX_ROUNDS;
-use tile::{Refusal, Shape};
+use limits::Refusal;
+use tile::Shape;
 
 // Can so many rounds be due?
 fn can_be_due(done: u8) -> bool

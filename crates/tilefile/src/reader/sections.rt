@@ -13,8 +13,9 @@ ghost use Rattle.tilefile.specs.Sections.{WholeChecked, CountChecked, RuleChecke
 use crate::fault::{Fault, Flaw, Section};
 use crate::letter::Letter;
 use crate::reader::Reader;
+use limits::Refusal;
 use passes::{are_ties_sound, is_reading_sound};
-use tile::{Refusal, Shape};
+use tile::Shape;
 
 impl<'a> Reader<'a> {
     // The next bytes, so many of them, which are a count or an entry of the section.

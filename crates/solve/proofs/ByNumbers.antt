@@ -6,11 +6,11 @@ use Rattle.tile.specs.declared.cell.Cell.{Cell}
 use Rattle.tile.proofs.ByNumbers.{rounds}
 use Rattle.tile.specs.declared.side.Side.{Side}
 use Rattle.tile.specs.declared.side.Side.TheVariants.{Rightward, Downward}
-use Rattle.tile.specs.Tiles.{Tile, cell, survey}
+use Rattle.tile.specs.Tiles.{Tile, cell, survey, heights}
 use Rattle.tile.specs.Examples.{first, second}
 use Rattle.flow.specs.Points.{FourPoints}
 use Rattle.limits.proofs.Outcomes.{surely}
-use Rattle.filter.specs.Calls.{HalvedBy, heights}
+use Rattle.filter.specs.Calls.{HalvedBy}
 use Rattle.filter.specs.Runs.{surveyed}
 use Rattle.filter.proofs.Resurveyed.{SameSurvey, lowest_resurveyed}
 use Rattle.filter.specs.Examples.{one_cell, levelled, calls, put_in, ended}

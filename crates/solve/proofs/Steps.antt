@@ -9,7 +9,7 @@ use Rattle.tile.specs.declared.bracket.Bracket.{Bracket}
 use Rattle.tile.specs.declared.shape.Shape.{Shape}
 use Rattle.tile.specs.Halving.{RoundsOver, RoundLeft, RoundsDue}
 use Rattle.tile.specs.Shapes.{cells}
-use Rattle.tile.specs.Tiles.{Tile, Survey, cell, survey}
+use Rattle.tile.specs.Tiles.{Tile, Survey, cell, survey, heights}
 use Rattle.flow.specs.Points.{FourPoints}
 use Rattle.passes.specs.Soundness.{Sound}
 use Rattle.filter.specs.declared.states.Draft.{Draft}
@@ -18,7 +18,7 @@ use Rattle.filter.specs.declared.states.Level.{Level}
 use Rattle.filter.specs.declared.answers.Refused.{Refused}
 use Rattle.filter.specs.declared.answers.Rounded.{Rounded}
 use Rattle.filter.specs.Checks.{TileChecked}
-use Rattle.filter.specs.Calls.{LeavesAll, BeginDoes, Begun, HalvedBy, RoundedBy, RoundDoes, SurveyKept, FinishedBy, FinishDoes, heights}
+use Rattle.filter.specs.Calls.{LeavesAll, BeginDoes, Begun, HalvedBy, RoundedBy, RoundDoes, SurveyKept, FinishedBy, FinishDoes}
 use Rattle.filter.specs.Runs.{begun, rounded, finished, History, surveyed, State, draft, rounding, level, added, next, Lent, Run, GoesOn, GoesOnUnder}
 use Rattle.filter.proofs.Keeps.{every_run}
 use Rattle.filter.proofs.Keeping.{Held, draft_held, round_held, ends_at, lowest_held}

@@ -8,14 +8,14 @@ use Rattle.theory.specs.Grids.{LowestCheapestGrid}
 use Rattle.tile.specs.declared.shape.Shape.{Shape}
 use Rattle.tile.specs.Halving.{RoundsOver, RoundLeft, RoundsDue}
 use Rattle.tile.specs.Shapes.{cells}
-use Rattle.tile.specs.Tiles.{Tile, Survey, cell, survey, problem}
+use Rattle.tile.specs.Tiles.{Tile, Survey, cell, survey, problem, heights}
 use Rattle.passes.specs.Soundness.{Sound}
 use Rattle.filter.specs.declared.states.Draft.{Draft}
 use Rattle.filter.specs.declared.states.Rounding.{Rounding}
 use Rattle.filter.specs.declared.states.Level.{Level}
 use Rattle.filter.specs.declared.answers.Refused.{Refused}
 use Rattle.filter.specs.Checks.{TileChecked}
-use Rattle.filter.specs.Calls.{LeavesAll, HalvedBy, heights}
+use Rattle.filter.specs.Calls.{LeavesAll, HalvedBy}
 use Rattle.filter.specs.Runs.{History, Finished, surveyed, State, draft, rounding, level, Lent, Run}
 
 -- the records past the first n, and how many there are, are as they were

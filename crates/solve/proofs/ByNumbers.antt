@@ -13,7 +13,7 @@ use Rattle.limits.proofs.Outcomes.{surely}
 use Rattle.filter.specs.Calls.{HalvedBy}
 use Rattle.filter.specs.Runs.{surveyed}
 use Rattle.filter.proofs.Resurveyed.{SameSurvey, lowest_resurveyed}
-use Rattle.filter.specs.Examples.{one_cell, levelled, calls, put_in, ended}
+use Rattle.filter.specs.Examples.{one_cell, calls, put_in, ended}
 use Rattle.filter.proofs.ByNumbers.{put_sound, sound_at_1, runs, round_calls}
 use Rattle.solve.specs.Solving.{HalvedTimes, none, more}
 use Rattle.solve.specs.Examples.{SamplesAreRead, SolvingIsRead, solved}

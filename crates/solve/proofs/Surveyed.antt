@@ -1,5 +1,5 @@
 -- Samples checked and solved, from what their checks, start, the writing and solve do.
-use Rattle.std.proofs.Common.{◌≡◌, ℕ, ◌+◌, ◌*◌, ◌<◌, ◌≤◌, List, [], length, take, Ok, Err, Result, IsOkAnd, sym, refl, ap, ◌∙◌, subst, ap₂, arith}
+use Rattle.std.proofs.Common.{◌≡◌, ℕ, ◌*◌, ◌<◌, ◌≤◌, List, [], length, take, Ok, Err, Result, IsOkAnd, sym, refl, ap, ◌∙◌, subst, ap₂, arith}
 use Rattle.std.proofs.lemmas.List.{get_or-take}
 use Rattle.limits.specs.Limits.{most_rows}
 use Rattle.limits.specs.declared.refusal.Refusal.{Refusal}
@@ -10,7 +10,7 @@ use Rattle.price.specs.Rules.{Rule, Lawful}
 use Rattle.tile.specs.declared.shape.Shape.{Shape}
 use Rattle.tile.specs.Records.{stored_tie}
 use Rattle.tile.specs.Shapes.{cells, Ranged, MadeOf}
-use Rattle.tile.specs.Tiles.{Tile, Survey, cell, blank, survey, heights}
+use Rattle.tile.specs.Tiles.{Tile, Survey, blank, survey, heights}
 use Rattle.passes.specs.Writing.{fresh}
 use Rattle.passes.proofs.Rewrites.{rewritten_length}
 use Rattle.filter.specs.declared.states.Draft.{Draft}
@@ -24,7 +24,7 @@ use Rattle.filter.proofs.Resurveyed.{lowest_resurveyed}
 use Rattle.solve.specs.declared.samples.Sample.{Sample}
 use Rattle.solve.specs.declared.samples.SamplesRefusal.{SamplesRefusal}
 use Rattle.solve.specs.declared.samples.SamplesRefusal.TheVariants.{FewSamples, Call}
-use Rattle.solve.specs.Solving.{RoundsChecked, Ready, Solved, EndsRuns, FinishedRun}
+use Rattle.solve.specs.Solving.{RoundsChecked, Ready, Solved, EndsRuns}
 use Rattle.solve.specs.Surveying.{sample, sampled, samples_refusal_number, SampleChecked, SamplesChecked, SurveyChecked, SoundSample, AllSound, WrittenTo, SampledAndSolved, SamplesDo}
 use Rattle.solve.proofs.Written.{sound_of, no_ties}
 

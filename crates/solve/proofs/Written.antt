@@ -1,19 +1,19 @@
 -- Samples that are checked and written into a draft, from the contracts of the calls.
-use Rattle.std.proofs.Common.{◌≡◌, ℕ, ◌+◌, ◌*◌, ◌<◌, ◌≤◌, cond, eqb, List, [], ◌∷◌, length, take, Ok, Err, Result, sym, refl, ap, ◌∙◌, subst, ap₂, ⊎_elim, arith}
+use Rattle.std.proofs.Common.{◌≡◌, ℕ, ◌+◌, ◌*◌, ◌<◌, ◌≤◌, cond, eqb, List, ◌∷◌, length, take, Ok, Err, Result, sym, refl, ap, ◌∙◌, subst, ap₂, ⊎_elim, arith}
 use Rattle.std.proofs.lemmas.List.{get_or-take, get_or_past, length-take-le, length-set}
 use Rattle.std.proofs.lemmas.Bool.{cond_both, cases_lt, eqb-true, eqb-false}
 use Rattle.limits.specs.declared.refusal.Refusal.{Refusal}
-use Rattle.limits.specs.Checking.{Checked, passed}
+use Rattle.limits.specs.Checking.{passed}
 use Rattle.limits.proofs.Outcomes.{either, mapped, surely, same_refusal}
 use Rattle.limits.proofs.Each.{each_passed, each_refused}
-use Rattle.price.specs.Rules.{Rule, Lawful}
+use Rattle.price.specs.Rules.{Lawful}
 use Rattle.price.specs.Kinds.{absolute}
 use Rattle.price.specs.Kept.{absolute_lawful}
 use Rattle.tile.specs.declared.shape.Shape.{Shape}
 use Rattle.tile.specs.declared.side.Side.{Side}
 use Rattle.tile.specs.declared.side.Side.TheVariants.{Rightward, Downward}
 use Rattle.tile.specs.Shapes.{cells}
-use Rattle.tile.specs.Tiles.{Tile, Survey, cell}
+use Rattle.tile.specs.Tiles.{Tile, Survey}
 use Rattle.passes.specs.Soundness.{SoundReading, SoundTies, Sound}
 use Rattle.passes.specs.Writing.{weights}
 use Rattle.filter.specs.declared.states.Draft.{Draft}
@@ -25,7 +25,7 @@ use Rattle.filter.proofs.Keeps.{every_run}
 use Rattle.filter.proofs.Places.{place_of, inside_of}
 use Rattle.filter.proofs.RunsKept.{not_both, sound_slice}
 use Rattle.solve.specs.declared.samples.Sample.{Sample}
-use Rattle.solve.specs.Surveying.{At, sample, ties, sampled, SampleChecked, SamplesChecked, SoundSample, WrittenTo, AllSound, SampleReady}
+use Rattle.solve.specs.Surveying.{At, sample, ties, sampled, SampleChecked, SamplesChecked, SoundSample, WrittenTo, SampleReady}
 use Rattle.solve.proofs.Steps.{goes}
 
 -- ---- one cell, by its row and column

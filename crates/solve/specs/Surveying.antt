@@ -1,5 +1,5 @@
 -- Samples, the survey that they are, and what surveying and solving them answers and leaves.
-use Rattle.std.specs.Prelude.{◌≡◌, ℕ, ◌+◌, ◌/◌, ◌%◌, ◌<◌, ◌≤◌, List, length, take, Result, IsOkAnd, slice_index_or, codes}
+use Rattle.std.specs.Prelude.{◌≡◌, ℕ, ◌/◌, ◌%◌, ◌<◌, ◌≤◌, List, length, take, Result, IsOkAnd, slice_index_or, codes}
 use Rattle.limits.specs.Limits.{most_rows}
 use Rattle.limits.specs.Refusals.{number, refusal_text}
 use Rattle.limits.specs.declared.refusal.Refusal.{Refusal}

@@ -1,4 +1,4 @@
-use Rattle.std.proofs.Common.{length, sym}
+use Rattle.std.proofs.Common.{length}
 use Rattle.limits.proofs.Outcomes.{broke}
 use Rattle.solve.proofs.Surveyed.{survey_refused, survey_passed, first_written, all_sound, survey_ready, survey_solved}
 use Rattle.solve.proofs.surveying.solve_samples.Goals as goal

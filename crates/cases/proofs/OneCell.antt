@@ -68,9 +68,8 @@ pub one_ends : (rule : Rule) → Lawful rule → (d : Draft) (t : Tile) (n : ℕ
     IsOkAnd answer (λ l. FinishedRun rule d.shape (surveyed []) l (take (cells d.shape) t'))
 one_ends rule lawful d t n answer t' s room solves =
     let e : cells d.shape ≡ 1 = one d.shape s.made in
-    let lent = Lent.all (omega (arith, e, s.whole)) in
     surely (omega (arith, s.made.same_top, lawful.level_least))
-    (surely (omega (arith, e)) (surely (omega (arith, e, s.whole)) (solves d.shape [] (take (cells d.shape) t) (take (cells d.shape) t') (by_cells d t rule s) lent)))
+    (surely (omega (arith, e)) (surely (omega (arith, e, s.whole)) (solves d.shape [] (take (cells d.shape) t) (take (cells d.shape) t') (by_cells d t rule s) (Lent.all (omega (arith, e, s.whole))))))
 
 pub ends_ok : {E : Type 0} (answer : Result Level E) (P : Level → Type 0) → IsOkAnd answer P → IsOk answer
 ends_ok (Ok l) P p = refl

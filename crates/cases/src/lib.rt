@@ -11,7 +11,7 @@ mod running;
 #[cfg(test)]
 mod tests;
 #[cfg(test)]
-mod worked;
+mod worked_tiles;
 
 pub use one_cell::finish_one_cell;
 pub use outside::try_outside;

@@ -85,11 +85,7 @@ fn check_level<P: PriceRule>(
 }
 
 // Solves the tile by both makers, the second after reopening the level that the first came to.
-pub fn check_worked<P: PriceRule>(
-    rt: &impl Abort,
-    rule: &P,
-    worked: &Worked,
-) -> Result<(), Fail> {
+pub fn check_worked<P: PriceRule>(rt: &impl Abort, rule: &P, worked: &Worked) -> Result<(), Fail> {
     let mut tile = [JUNK; 4];
     let draft = drafted(rt, worked, &mut tile)?;
     let entries = &mut [Step::default(); 4];

@@ -1,6 +1,6 @@
 // A refused call in between.
 ghost use Rattle.std.specs.Prelude.{◌≡◌, ◌≤◌};
-ghost use Rattle.solve.specs.Refusing.{RefusedPut, SameHistory};
+ghost use Rattle.cases.specs.Outside.{RefusedPut, SameHistory};
 
 use filter::Draft;
 use tile::Cell;
@@ -12,8 +12,8 @@ fn row_outside(draft: &Draft) -> usize
     draft.rows()
 }
 
-// Tries to put a reading outside of the tile. The call is refused and changes nothing: the draft and the tile are as they
-// were, and every run goes on with the same history.
+/// Tries to put a reading outside of the tile. The call is refused and changes nothing: the draft and the tile are as they
+/// were, and every run goes on with the same history.
 pub fn try_outside(draft: Draft, tile: &mut [Cell]) -> Draft
     ensures refused { RefusedPut draft tile.old result tile.new }
     ensures same_draft { result ≡ draft }

@@ -33,8 +33,12 @@ impl FaultNumbers {
                 section: fault.section.number(),
                 inner: fault.flaw.inner_number(),
             },
-            FileRefusal::Call(why) => FaultNumbers {
-                number: why.number().into(),
+            FileRefusal::FewEntries => FaultNumbers {
+                number: refusal.number().into(),
+                ..FaultNumbers::default()
+            },
+            FileRefusal::FewPlaces => FaultNumbers {
+                number: FEW_PLACES,
                 ..FaultNumbers::default()
             },
         }

@@ -1,6 +1,5 @@
-use Rattle.std.proofs.Common.{◌≡◌, Ok, Result, sym, ap, ◌∙◌, subst}
+use Rattle.std.proofs.Common.{Ok, sym, ap, ◌∙◌, subst}
 use Rattle.limits.proofs.Outcomes.{broke}
-use Rattle.report.specs.declared.refusing.FileRefusal.{FileRefusal}
 use Rattle.report.specs.declared.refusing.FileRefusal.TheVariants.{File}
 use Rattle.host.specs.declared.shapes.ShapeNumbers.{ShapeNumbers}
 use Rattle.host.specs.Shapes.{shape_numbers, ShapeAnswered}

@@ -3,9 +3,8 @@ use Rattle.std.proofs.Common.{◌≡◌, Bool, true, ◌&&◌, List, [], ◌∷�
 use Rattle.std.specs.List.{AllByRecursion as All}
 use Rattle.std.proofs.lemmas.Bool.{and_parts}
 use Rattle.theory.specs.Grids.{energy}
-use Rattle.tile.specs.Rating.{height}
 use Rattle.tile.proofs.Joins.{ties_join_cells}
-use Rattle.cases.specs.Cases.{Case, surveyed, posed, RightCase}
+use Rattle.cases.specs.Cases.{Case, height, surveyed, posed, RightCase}
 use Rattle.cases.specs.Worked.{worked, WorkedTilesAreRight}
 use Rattle.cases.proofs.Decided.{is_lowest_cheapest, decided}
 

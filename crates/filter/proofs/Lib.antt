@@ -10,6 +10,5 @@ pub mod RunsKept
 pub mod Places
 pub mod Resurveyed
 pub mod Staying
-pub mod Numbers
 pub mod ByNumbers
 pub mod Writes

@@ -36,6 +36,8 @@ pub record Law (rule : Rule) (s : Shape) (h : History) (x : State) (t : Tile) : 
   -- If finish was the last call accepted, no grid of heights 0..top costs less than the grid of the low ends, and no grid of
   -- the same cost is lower at any cell.
   pub finished_grid_is_lowest_cheapest : Finished h → LowestCheapestGrid (problem rule s (surveyed h)) (heights t)
+  -- Then the rule reaches top.
+  pub finished_rule_reaches_top : Finished h → s.top ≤ rule.greatest
   -- Whichever call came last, there is a lowest cheapest grid, and every bracket contains its height.
   pub lowest_cheapest_grid_exists : s.top ≤ rule.greatest → (g : Heights) × LowestCheapestGrid (problem rule s (surveyed h)) g
   pub brackets_contain_it : s.top ≤ rule.greatest → (g : Heights) → LowestCheapestGrid (problem rule s (surveyed h)) g →

@@ -1,5 +1,5 @@
 // The calls once every cell has one height.
-ghost use Rattle.std.specs.Prelude.{map};
+ghost use Rattle.std.specs.Prelude.{◌≡◌, map};
 ghost use Rattle.tile.specs.declared.cell.Cell.{Cell as Record};
 ghost use Rattle.filter.specs.Calls.{ReopenDoes, HeightDoes, CostDoes};
 ghost use Rattle.filter.specs.Runs.{draft, level, reopened, GoesOn};
@@ -33,7 +33,28 @@ impl<'a> HeightGrid for LowEnds<'a> {
 }
 
 impl Level {
-    // The height of the cell in a row and a column.
+    /// How many rows the tile has.
+    pub fn rows(&self) -> usize
+        ensures { result ≡ self.now.shape.rows }
+    {
+        self.shape.rows()
+    }
+
+    /// How many columns the tile has.
+    pub fn columns(&self) -> usize
+        ensures { result ≡ self.now.shape.columns }
+    {
+        self.shape.columns()
+    }
+
+    /// The greatest height of the tile.
+    pub fn top(&self) -> u16
+        ensures { result ≡ self.now.shape.top }
+    {
+        self.shape.top()
+    }
+
+    /// The height of the cell in a row and a column.
     pub fn height(&self, tile: &[Cell], row: usize, column: usize) -> Result<u16, Refusal>
         ensures { HeightDoes self.now tile.now row column result }
     {
@@ -41,7 +62,7 @@ impl Level {
         Ok(low_end(&tile[at]))
     }
 
-    // The energy of the heights under a price rule.
+    /// The energy of the heights under a price rule.
     pub fn cost<P: PriceRule>(&self, tile: &[Cell], rule: &P) -> Result<u64, Refusal>
         ensures { CostDoes (P.PriceRule.rule rule.now) self.now tile.now result }
     {
@@ -49,7 +70,7 @@ impl Level {
         energy(rule, self.shape, tile, &LowEnds { tile })
     }
 
-    // Goes back to a draft: keeps readings, classes and ties, and resets the rest as start does.
+    /// Goes back to a draft: keeps readings, classes and ties, and resets the rest as start does.
     pub fn reopen(self, tile: &mut [Cell]) -> Result<Draft, Refused<Level>>
         ensures does { ReopenDoes self self.shape self.done tile.old result tile.new }
         ensures goes_on { GoesOn (level self) tile.old level draft reopened result tile.new }

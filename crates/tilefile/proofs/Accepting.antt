@@ -72,7 +72,7 @@ pub record Stands (letter : Letter) (s : Shape) (y : Survey) (f : List ℕ) : Ty
   pub ends : length f ≤ ties_place (ties_start s) (cells s)
 
 -- a tile of so few rows has cells that two bytes can count
-few_cells : (s : Shape) → s.rows ≤ most_rows → cells s ≤ 4096
+pub few_cells : (s : Shape) → s.rows ≤ most_rows → cells s ≤ 4096
 few_cells s few = mul-le s.rows s.columns 64 64 few s.wide.1
 
 -- what follows each part, from the file's beginning to its end

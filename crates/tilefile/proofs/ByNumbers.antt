@@ -18,12 +18,12 @@ use Rattle.tilefile.specs.declared.fault.Fault.{Fault}
 use Rattle.tilefile.specs.Faults.{flaw_number}
 use Rattle.tilefile.specs.declared.fault.Section.TheVariants as section
 use Rattle.tilefile.specs.declared.fault.Flaw.TheVariants.{Truncated, Entry, Letter as LetterFlaw}
-use Rattle.limits.specs.declared.refusal.Refusal.TheVariants.{FewRecords, Reading}
+use Rattle.tilefile.specs.declared.fault.EntryFlaw.TheVariants.{FewRecords, Reading}
 use Rattle.filter.specs.declared.states.Draft.{Draft}
 use Rattle.tilefile.specs.Letters.{NamesOne}
 use Rattle.tilefile.specs.Sections.{tie_numbers, fault, FaultChecked, ShapeChecked, TiesChecked, EndChecked}
 use Rattle.tilefile.specs.Files.{file_survey, Asked, CellsChecked, FileChecked}
-use Rattle.tilefile.specs.Examples.{BytesAreRead, LayoutsAreRead, FilesAreRead, TextsOfFaults, two_cells_file, two_faults_file, drafted, three_records}
+use Rattle.tilefile.specs.Examples.{BytesAreRead, LayoutsAreRead, FilesAreRead, NumbersOfEntries, TextsOfFaults, two_cells_file, two_faults_file, drafted, three_records}
 
 no_B : NamesOne 66 → ⊥
 no_B (Absolute, e) = omega (arith, e)
@@ -131,6 +131,9 @@ files = record {
 
     reading_refused : {Rest : Type 0} → CellsChecked two_in_a_row two_faults_file 11 (λ e. (◌≡◌ {A = Result (Draft × Letter) Fault} (Err (fault section.Readings 16 (Entry Reading))) (Err e)) × (◌≡◌ {A = Tile} three_records three_records)) Rest
     reading_refused = passed (omega arith) (passed refl (passed (omega arith) (passed (record { reading = omega arith; class = omega arith }) (passed (omega arith) (refused (λ r. omega (arith, r.reading)) refl (refl, (refl, refl)))))))
+
+pub entries : NumbersOfEntries
+entries = record { range = refl; few_records = refl; reading = refl; tie = refl }
 
 pub texts : TextsOfFaults
 unfolding digits

@@ -7,4 +7,5 @@ pub mod Found
 pub mod Fronts
 pub mod Layouts
 pub mod Accepting
+pub mod Bounded
 pub mod ByNumbers

@@ -1,19 +1,19 @@
 -- The checks of a section, with other outcomes.
 use Rattle.std.proofs.Common.{ℕ, ◌+◌, ◌*◌, ◌≤◌, List}
-use Rattle.limits.specs.declared.refusal.Refusal.{Refusal}
 use Rattle.limits.proofs.Outcomes.{mapped, followed}
 use Rattle.limits.proofs.Each.{each_mapped}
 use Rattle.tile.specs.declared.shape.Shape.{Shape}
 use Rattle.tile.specs.Shapes.{cells}
 use Rattle.tilefile.specs.declared.fault.Section.{Section}
 use Rattle.tilefile.specs.declared.fault.Section.TheVariants as section
+use Rattle.tilefile.specs.declared.fault.EntryFlaw.{EntryFlaw}
 use Rattle.tilefile.specs.declared.fault.Flaw.TheVariants.{Entry}
 use Rattle.tilefile.specs.declared.fault.Fault.{Fault}
 use Rattle.tilefile.specs.Sections.{fault, at_entry, CountChecked, reading_place, ReadingChecked, ReadingsChecked, ties_place, TieChecked, TiesChecked, RuleChecked, rows_at, columns_at, ShapeChecked}
 use Rattle.tilefile.specs.Files.{CellsChecked}
 
 -- at an entry
-entry_mapped : {Left Left' : Fault → Type 0} → ((e : Fault) → Left e → Left' e) → (s : Section) (p : ℕ) (e : Refusal) → at_entry Left s p e → at_entry Left' s p e
+entry_mapped : {Left Left' : Fault → Type 0} → ((e : Fault) → Left e → Left' e) → (s : Section) (p : ℕ) (e : EntryFlaw) → at_entry Left s p e → at_entry Left' s p e
 entry_mapped left s p e z = (z.0, left (fault s p (Entry e)) z.1)
 
 pub count_mapped : {Left Left' : Fault → Type 0} {Rest Rest' : Type 0} (f : List ℕ) (s : Section) (p n : ℕ) → ((e : Fault) → Left e → Left' e) → (Rest → Rest') → CountChecked f s p n Left Rest → CountChecked f s p n Left' Rest'

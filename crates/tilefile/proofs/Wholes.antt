@@ -159,8 +159,13 @@ pub contents_hold : (f : List ℕ) (n : ℕ) (x : Shape) (readings ties : List �
 contents_hold f n x readings ties w = held (file_found (λ e. ⊥) (λ e z. z) f n (SectionsAre f x readings ties) w)
   where
     of_file : (s : Shape) → Whole s f n → record { whole : Holds s (drop 11 f) (drop (ties_start s) f); writable : Writable s (file_survey s f) }
-    of_file s w = record {
-      whole = record { each_reading = long_readings s f (some_cells s) w.entries; each_tie = long_ties s f (some_cells s) w.entries };
+    of_file s w = let here : ties_start s + 0 ≡ ties_start s = omega arith in record {
+      whole = record {
+        readings_count = number_in f 11 0 ∙ w.entries.readings.count;
+        each_reading = long_readings s f (some_cells s) w.entries;
+        ties_count = number_in f (ties_start s) 0 ∙ ap (number_at f) here ∙ w.entries.ties.count;
+        each_tie = long_ties s f (some_cells s) w.entries;
+      };
       writable = accepts s f (omega (arith, w.asked.same_rows, w.asked.ranged.few_rows)) w.entries;
     }
 

@@ -1,7 +1,8 @@
 -- Examples in numbers, which pin the definitions: the file of two cells with readings 0 and 10 over a tie of weight 6.
 use Rattle.std.specs.Prelude.{◌≡◌, ℕ, List, [], ◌∷◌, Ok, Err, codes}
 use Rattle.std.proofs.Common.{lit≤}
-use Rattle.limits.specs.declared.refusal.Refusal.TheVariants.{FewRecords, Reading as ReadingRefused}
+use Rattle.limits.specs.Refusals.{number}
+use Rattle.limits.specs.declared.refusal.Refusal.TheVariants as refusal
 use Rattle.tile.specs.declared.side.Side.TheVariants.{Rightward, Downward}
 use Rattle.tile.specs.Tiles.{Tile, blank, survey}
 use Rattle.tile.specs.Examples.{two_in_a_row, pair}
@@ -9,10 +10,11 @@ use Rattle.passes.specs.Writing.{weights}
 use Rattle.filter.specs.declared.states.Draft.{Draft}
 use Rattle.filter.specs.Runs.{put_at, tied_at}
 use Rattle.tilefile.specs.declared.fault.Section.TheVariants.{Rule, Shape, Readings, Ties}
+use Rattle.tilefile.specs.declared.fault.EntryFlaw.TheVariants as entry
 use Rattle.tilefile.specs.declared.fault.Flaw.TheVariants.{Truncated, Count, Letter, Entry, Trailing}
 use Rattle.tilefile.specs.declared.letter.Letter.TheVariants.{Absolute, Squared}
 use Rattle.tilefile.specs.Bytes.{number_at}
-use Rattle.tilefile.specs.Faults.{fault_text}
+use Rattle.tilefile.specs.Faults.{entry_number, fault_text}
 use Rattle.tilefile.specs.Letters.{NamesOne}
 use Rattle.tilefile.specs.Sections.{fault}
 use Rattle.tilefile.specs.Survey.{Writable, surveyed_record}
@@ -71,10 +73,17 @@ pub record FilesAreRead : Type 0 where
   pub count_of_two_letters : ReadDoes (0 ∷ 2 ∷ 65 ∷ []) three_records (Err (fault Rule 0 Count)) three_records
   pub letter_B : ReadDoes (0 ∷ 1 ∷ 66 ∷ []) three_records (Err (fault Rule 2 Letter)) three_records
   pub no_shape : ReadDoes (0 ∷ 1 ∷ 65 ∷ []) three_records (Err (fault Shape 3 Truncated)) three_records
-  pub few_records : ReadDoes two_cells_file (blank ∷ []) (Err (fault Shape 5 (Entry FewRecords))) (blank ∷ [])
-  pub reading_above_top : ReadDoes two_faults_file three_records (Err (fault Readings 16 (Entry ReadingRefused))) three_records
+  pub few_records : ReadDoes two_cells_file (blank ∷ []) (Err (fault Shape 5 (Entry entry.FewRecords))) (blank ∷ [])
+  pub reading_above_top : ReadDoes two_faults_file three_records (Err (fault Readings 16 (Entry entry.Reading))) three_records
   pub the_shape_is_not_told_before_the_letter : ReadDoes (0 ∷ 1 ∷ 66 ∷ []) three_records (Err (fault Shape 3 Truncated)) three_records → ⊥
 
+-- an entry's number is that of the refusal which the call would answer
+pub record NumbersOfEntries : Type 0 where
+  pub range : entry_number entry.Range ≡ number refusal.Range
+  pub few_records : entry_number entry.FewRecords ≡ number refusal.FewRecords
+  pub reading : entry_number entry.Reading ≡ number refusal.Reading
+  pub tie : entry_number entry.Tie ≡ number refusal.Tie
+
 pub record TextsOfFaults : Type 0 where
-  pub reading_refused : fault_text (fault Readings 16 (Entry ReadingRefused)) ≡ codes "refused 14 3 16 5"
+  pub reading_refused : fault_text (fault Readings 16 (Entry entry.Reading)) ≡ codes "refused 14 3 16 5"
   pub trailing_byte : fault_text (fault Ties 29 Trailing) ≡ codes "refused 15 4 29 0"

@@ -1,7 +1,9 @@
 -- The letters of the price rules.
-use Rattle.std.specs.Prelude.{◌≡◌, ℕ}
+use Rattle.std.specs.Prelude.{◌≡◌, ℕ, Result, MatchResult}
 use Rattle.price.specs.Rules.{Rule}
 use Rattle.price.specs.Kinds.{absolute, squared, leaning}
+use Rattle.tilefile.specs.declared.fault.Flaw.{Flaw}
+use Rattle.tilefile.specs.declared.fault.Flaw.TheVariants.{Letter as NoLetter}
 use Rattle.tilefile.specs.declared.letter.Letter.{Letter}
 use Rattle.tilefile.specs.declared.letter.Letter.TheVariants.{Absolute, Squared, Leaning}
 
@@ -20,3 +22,7 @@ letter_rule Leaning top = leaning top
 -- the byte is such a letter
 abbrev pub NamesOne : ℕ → Type 0
 NamesOne b = (letter : Letter) × (b ≡ letter_byte letter)
+
+-- the letter that the byte is, or the flaw of a byte that is none
+abbrev pub ReadAsLetter : ℕ → Result Letter Flaw → Type 0
+ReadAsLetter b r = MatchResult r (λ letter. b ≡ letter_byte letter) (λ flaw. (flaw ≡ NoLetter) × (NamesOne b → ⊥))

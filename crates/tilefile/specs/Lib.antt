@@ -6,5 +6,6 @@ pub mod Sections
 pub mod Survey
 pub mod Files
 pub mod Contents
+pub mod Bounds
 pub mod Layout
 pub mod Examples

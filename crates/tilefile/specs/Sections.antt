@@ -1,20 +1,20 @@
 -- The four sections of a file, each by its checks in file order. A section begins at the place p of the file f with its count.
 use Rattle.std.specs.Prelude.{◌≡◌, ℕ, ◌+◌, ◌*◌, ◌≤◌, List, length}
-use Rattle.limits.specs.declared.refusal.Refusal.{Refusal}
-use Rattle.limits.specs.declared.refusal.Refusal.TheVariants.{Reading, Tie}
-use Rattle.limits.specs.Checking.{CheckedBy, Checked, EachChecked}
+use Rattle.limits.specs.Limits.{most_rows}
+use Rattle.limits.specs.Checking.{CheckedBy, EachChecked}
 use Rattle.tile.specs.declared.shape.Shape.{Shape}
 use Rattle.tile.specs.declared.side.Side.{Side}
-use Rattle.tile.specs.Shapes.{cells}
+use Rattle.tile.specs.Shapes.{cells, Ranged}
 use Rattle.passes.specs.Soundness.{SoundReading, SoundTies}
 use Rattle.passes.specs.Writing.{weights}
-use Rattle.filter.specs.Checks.{StartChecked}
 use Rattle.tilefile.specs.declared.fault.Section.{Section}
 use Rattle.tilefile.specs.declared.fault.Section.TheVariants as section
+use Rattle.tilefile.specs.declared.fault.EntryFlaw.{EntryFlaw}
+use Rattle.tilefile.specs.declared.fault.EntryFlaw.TheVariants.{Range, FewRecords, Reading, Tie}
 use Rattle.tilefile.specs.declared.fault.Flaw.{Flaw}
 use Rattle.tilefile.specs.declared.fault.Flaw.TheVariants.{Truncated, Count, Letter, Entry, Trailing}
 use Rattle.tilefile.specs.declared.fault.Fault.{Fault}
-use Rattle.tilefile.specs.Faults.{flaw_number}
+use Rattle.tilefile.specs.Faults.{entry_number, flaw_number}
 use Rattle.tilefile.specs.Bytes.{byte_at, number_at}
 use Rattle.tilefile.specs.Letters.{NamesOne}
 
@@ -35,9 +35,14 @@ WholeChecked f s p size = FaultChecked 11 Truncated s (length f) (p + size ≤ l
 abbrev pub CountChecked : List ℕ → Section → (p n : ℕ) → (Fault → Type 0) → Type 0 → Type 0
 CountChecked f s p n Left Rest = WholeChecked f s p 2 Left (FaultChecked 12 Count s p (number_at f p ≡ n) Left Rest)
 
--- what is left where a call would refuse the entry at p with e: flaw 14, which carries e
-abbrev pub at_entry : (Fault → Type 0) → Section → ℕ → Refusal → Type 0
+-- what is left where the entry at p has the flaw e: flaw 14, which carries e
+abbrev pub at_entry : (Fault → Type 0) → Section → ℕ → EntryFlaw → Type 0
 at_entry Left s p e = (flaw_number (Entry e) ≡ 14) × Left (fault s p (Entry e))
+
+-- One check of an entry, which a call on the tile makes too. Where its condition does not hold, the entry has the flaw e, whose number
+-- is n.
+abbrev pub EntryChecked : ℕ → EntryFlaw → Type 0 → (EntryFlaw → Type 0) → Type 0 → Type 0
+EntryChecked = CheckedBy entry_number
 
 -- ---- Rule: count 1, and one letter
 
@@ -55,6 +60,10 @@ columns_at f p = number_at f (p + 4)
 abbrev pub top_at : List ℕ → ℕ → ℕ
 top_at f p = number_at f (p + 6)
 
+-- rows, columns and top in their ranges, and a record for each cell
+abbrev pub StartChecked : (rows columns top records : ℕ) → (EntryFlaw → Type 0) → Type 0 → Type 0
+StartChecked rows columns top records Left Rest = EntryChecked 1 Range (Ranged most_rows rows columns top) Left (EntryChecked 2 FewRecords (rows * columns ≤ records) Left Rest)
+
 abbrev pub ShapeChecked : List ℕ → (p records : ℕ) → (Fault → Type 0) → Type 0 → Type 0
 ShapeChecked f p records Left Rest = CountChecked f section.Shape p 3 Left (WholeChecked f section.Shape (p + 2) 6 Left (StartChecked (rows_at f p) (columns_at f p) (top_at f p) records (at_entry Left section.Shape (p + 2)) Rest))
 
@@ -69,7 +78,7 @@ abbrev pub class_at : List ℕ → ℕ → ℕ
 class_at f q = byte_at f (q + 2)
 
 abbrev pub ReadingChecked : Shape → List ℕ → ℕ → (Fault → Type 0) → Type 0 → Type 0
-ReadingChecked s f q Left Rest = WholeChecked f section.Readings q 3 Left (Checked 5 Reading (SoundReading s.top (number_at f q) (class_at f q)) (at_entry Left section.Readings q) Rest)
+ReadingChecked s f q Left Rest = WholeChecked f section.Readings q 3 Left (EntryChecked 5 Reading (SoundReading s.top (number_at f q) (class_at f q)) (at_entry Left section.Readings q) Rest)
 
 abbrev pub ReadingsChecked : Shape → List ℕ → ℕ → (Fault → Type 0) → Type 0 → Type 0
 ReadingsChecked s f p Left Rest = CountChecked f section.Readings p (cells s) Left (EachChecked (λ u. ReadingChecked s f (reading_place p u) Left) (cells s) Rest)
@@ -85,7 +94,7 @@ abbrev pub tie_numbers : List ℕ → ℕ → Side → ℕ
 tie_numbers f q = weights (number_at f q) (number_at f (q + 2))
 
 abbrev pub TieChecked : Shape → List ℕ → (q u : ℕ) → (Fault → Type 0) → Type 0 → Type 0
-TieChecked s f q u Left Rest = WholeChecked f section.Ties q 4 Left (Checked 6 Tie (SoundTies s u (tie_numbers f q)) (at_entry Left section.Ties q) Rest)
+TieChecked s f q u Left Rest = WholeChecked f section.Ties q 4 Left (EntryChecked 6 Tie (SoundTies s u (tie_numbers f q)) (at_entry Left section.Ties q) Rest)
 
 abbrev pub TiesChecked : Shape → List ℕ → ℕ → (Fault → Type 0) → Type 0 → Type 0
 TiesChecked s f p Left Rest = CountChecked f section.Ties p (cells s) Left (EachChecked (λ u. TieChecked s f (ties_place p u) u Left) (cells s) Rest)

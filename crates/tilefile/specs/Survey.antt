@@ -1,5 +1,5 @@
 -- What the sections Readings and Ties say, and the records that say the same.
-use Rattle.std.specs.Prelude.{ℕ, ◌≤◌, List, length}
+use Rattle.std.specs.Prelude.{◌≡◌, ℕ, ◌≤◌, List, length}
 use Rattle.limits.specs.Limits.{most_rows}
 use Rattle.tile.specs.declared.cell.Cell.{Cell}
 use Rattle.tile.specs.declared.shape.Shape.{Shape}
@@ -11,9 +11,11 @@ use Rattle.passes.specs.Writing.{with_reading, with_ties, fresh}
 use Rattle.tilefile.specs.Bytes.{number_at}
 use Rattle.tilefile.specs.Sections.{reading_place, class_at, ties_place, tie_numbers}
 
--- the sections have an entry for each cell; what follows the entries is no part of them
+-- the sections have their counts and an entry for each cell; what follows the entries is no part of them
 pub record Holds (s : Shape) (readings ties : List ℕ) : Type 0 where
+  pub readings_count : number_at readings 0 ≡ cells s
   pub each_reading : reading_place 0 (cells s) ≤ length readings
+  pub ties_count : number_at ties 0 ≡ cells s
   pub each_tie : ties_place 0 (cells s) ≤ length ties
 
 -- the survey that the entries are; each section is given by the bytes from its count on

@@ -16,7 +16,7 @@ use filter::{Draft, start};
 use limits::Refusal;
 use tile::{Cell, Shape};
 
-// A file without a fault: its letter, its shape, and the file from its section Readings on and from Ties on.
+/// A file without a fault: its letter, its shape, and the file from its section Readings on and from Ties on.
 #[derive(Clone, Copy)]
 pub struct Contents<'a> {
     letter: Letter,
@@ -41,7 +41,7 @@ fn start_shape(shape: Shape, tile: &mut [Cell]) -> Draft
 impl<'a> Contents<'a> {
     ghost use Rattle.tilefile.specs.Contents.{CheckDoes, contents_survey};
 
-    // Checks a whole file, for so many records.
+    /// Checks a whole file, for so many records.
     pub fn check(bytes: &'a [u8], records: usize) -> Result<Contents<'a>, Fault>
         ensures { CheckDoes bytes.now records result }
     {
@@ -57,21 +57,21 @@ impl<'a> Contents<'a> {
         })
     }
 
-    // The letter of the price rule.
+    /// The letter of the price rule.
     pub fn letter(&self) -> Letter
         ensures { result ≡ self.now.letter }
     {
         self.letter
     }
 
-    // The shape of the tile.
+    /// The shape of the tile.
     pub fn shape(&self) -> Shape
         ensures { result ≡ self.now.shape }
     {
         self.shape
     }
 
-    // Writes the records, as start and then a put and a tie for every cell would, and answers the draft that they are.
+    /// Writes the records, as start and then a put and a tie for every cell would, and answers the draft that they are.
     pub fn fill(&self, tile: &mut [Cell]) -> Result<Draft, Refusal>
         ensures does { FillDoes self.now.shape (contents_survey self.now) tile.old result tile.new }
         ensures ends_run { IfOk result (λ d. LedTo d (contents_survey self.now) tile.new) }

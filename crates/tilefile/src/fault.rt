@@ -1,12 +1,11 @@
 // Why a tile file is refused: what is wrong, and where.
 ghost use Rattle.std.specs.Prelude.{◌≡◌};
-ghost use Rattle.tilefile.specs.Faults.{section_number, flaw_number, inner_number};
+ghost use Rattle.tilefile.specs.Faults.{section_number, entry_number, flaw_number, inner_number};
 
-use limits::Refusal;
 use std::error::Error;
 use std::fmt;
 
-// The sections of a file, in their order.
+/// The sections of a file, in their order.
 #[derive(Clone, Copy, PartialEq, Eq, Debug)]
 pub enum Section {
     Rule = 1,
@@ -16,7 +15,7 @@ pub enum Section {
 }
 
 impl Section {
-    // The number that the section is reported by.
+    /// The number that the section is reported by.
     pub fn number(self) -> u8
         ensures { result ≡ section_number self }
     {
@@ -24,23 +23,45 @@ impl Section {
     }
 }
 
-// What is wrong with a file.
+/// What is wrong with an entry that a call on the tile would refuse.
+#[derive(Clone, Copy, PartialEq, Eq, Debug)]
+pub enum EntryFlaw {
+    /// Rows, columns or top is out of range.
+    Range = 1,
+    /// There are fewer records than the tile has cells.
+    FewRecords = 2,
+    /// The reading is above the tile's top, or the class above the greatest class.
+    Reading = 5,
+    /// The tie is above the greatest tie, or is not 0 where the tile ends.
+    Tie = 6,
+}
+
+impl EntryFlaw {
+    /// The number of the refusal that the call would answer.
+    pub fn number(self) -> u8
+        ensures { result ≡ entry_number self }
+    {
+        self as u8
+    }
+}
+
+/// What is wrong with a file.
 #[derive(Clone, Copy, PartialEq, Eq, Debug)]
 pub enum Flaw {
-    // The bytes end within a count or an entry, or before one.
+    /// The bytes end within a count or an entry, or before one.
     Truncated,
-    // A count is not the one that has to stand here.
+    /// A count is not the one that has to stand here.
     Count,
-    // The letter names no price rule.
+    /// The letter names no price rule.
     Letter,
-    // A call on the tile would refuse the entry.
-    Entry(Refusal),
-    // Bytes follow the last section.
+    /// A call on the tile would refuse the entry.
+    Entry(EntryFlaw),
+    /// Bytes follow the last section.
     Trailing,
 }
 
 impl Flaw {
-    // The number that the flaw is reported by.
+    /// The number that the flaw is reported by.
     pub fn number(self) -> u8
         ensures { result ≡ flaw_number self }
     {
@@ -53,7 +74,7 @@ impl Flaw {
         }
     }
 
-    // The number of the refusal that an entry would get from its call; 0 for every other flaw.
+    /// The number of what is wrong with an entry; 0 for every other flaw.
     pub fn inner_number(self) -> u8
         ensures { result ≡ inner_number self }
     {
@@ -64,18 +85,8 @@ impl Flaw {
     }
 }
 
-impl From<Refusal> for Flaw {
-    ghost use Rattle.tilefile.specs.declared.fault.Flaw.TheVariants.{Entry};
-
-    ghost from_gives = { λ why flaw. flaw ≡ Entry why };
-
-    fn from(why: Refusal) -> Flaw {
-        Flaw::Entry(why)
-    }
-}
-
-// What is wrong with a file, and where: in which section, and at which byte of the file, counted from 0. That is the first byte of the
-// count or the entry at fault; the file's length where the bytes end too early; the first byte too many.
+/// What is wrong with a file, and where: in which section, and at which byte of the file, counted from 0. That is the first byte of
+/// the count or the entry at fault; the file's length where the bytes end too early; the first byte too many.
 #[derive(Clone, Copy, PartialEq, Eq, Debug)]
 pub struct Fault {
     pub section: Section,

@@ -1,25 +1,25 @@
 // The second pass over a file: what it says, written into the records.
 ghost use Rattle.std.specs.Prelude.{◌≡◌, ◌+◌, ◌≤◌, length};
 ghost use Rattle.tile.specs.Shapes.{cells};
-ghost use Rattle.passes.specs.Writing.{weights, rewritten};
+ghost use Rattle.passes.specs.Writing.{rewritten};
 ghost use Rattle.tilefile.specs.Bytes.{number_at};
-ghost use Rattle.tilefile.specs.Sections.{reading_place, ties_place};
-ghost use Rattle.tilefile.specs.Survey.{surveyed_record, entries_survey, cell_record};
+ghost use Rattle.tilefile.specs.Sections.{class_at, tie_numbers};
+ghost use Rattle.tilefile.specs.Survey.{Holds, surveyed_record, entries_survey, cell_record};
 
+use crate::fault::Section;
+use crate::reader::Reader;
 use tile::{Cell, Shape};
 
-// The two bytes at a place, as a number.
-fn number(bytes: &[u8], place: usize) -> u16
-    requires { place + 2 ≤ length bytes.now }
-    ensures { result ≡ number_at bytes.now place }
+// The record of a cell by its entries, which are the next ones.
+fn next_record(top: u16, readings: &mut Reader, ties: &mut Reader) -> Cell
+    requires reading { readings.old.place + 3 ≤ length readings.old.bytes.now }
+    requires tie { ties.old.place + 4 ≤ length ties.old.bytes.now }
+    ensures readings { (readings.new.bytes ≡ readings.old.bytes) × (readings.new.place ≡ readings.old.place + 3) }
+    ensures ties { (ties.new.bytes ≡ ties.old.bytes) × (ties.new.place ≡ ties.old.place + 4) }
+    ensures record_of_both { result ≡ surveyed_record top (number_at readings.old.bytes.now readings.old.place) (class_at readings.old.bytes.now readings.old.place) (tie_numbers ties.old.bytes.now ties.old.place) }
 {
-    u16::from_be_bytes([bytes[place], bytes[place + 1]])
-}
-
-// The record of a cell that was surveyed so.
-fn surveyed_record(top: u16, reading: u16, class: u8, right: u16, down: u16) -> Cell
-    ensures { result ≡ surveyed_record top reading class (weights right down) }
-{
+    let (reading, class) = readings.reading_entry().unwrap();
+    let (right, down) = ties.ties_entry().unwrap();
     Cell {
         reading,
         class,
@@ -30,30 +30,19 @@ fn surveyed_record(top: u16, reading: u16, class: u8, right: u16, down: u16) -> 
     }
 }
 
-// The record of a cell by its entries, from sections that begin with their counts.
-fn cell_record(top: u16, readings: &[u8], ties: &[u8], cell: usize) -> Cell
-    requires readings { reading_place 0 (cell + 1) ≤ length readings.now }
-    requires ties { ties_place 0 (cell + 1) ≤ length ties.now }
-    ensures { result ≡ cell_record top (entries_survey readings.now ties.now) cell }
-{
-    let (reading, tie) = (2 + 3 * cell, 2 + 4 * cell);
-    surveyed_record(
-        top,
-        number(readings, reading),
-        readings[reading + 2],
-        number(ties, tie),
-        number(ties, tie + 2),
-    )
-}
-
-// Writes every record.
+// Writes every record, from the file's two sections.
 pub(crate) fn lay(shape: Shape, readings: &[u8], ties: &[u8], tile: &mut [Cell])
-    requires readings { reading_place 0 (cells shape) ≤ length readings.now }
-    requires ties { ties_place 0 (cells shape) ≤ length ties.now }
+    requires file { Holds shape readings.now ties.now }
     requires tile { cells shape ≤ length tile.old }
     ensures { tile.new ≡ rewritten (cells shape) (cell_record shape.top (entries_survey readings.now ties.now)) tile.old }
 {
+    let mut from_readings = Reader::new(readings);
+    let mut from_ties = Reader::new(ties);
+    from_readings
+        .count(Section::Readings, shape.cells())
+        .unwrap();
+    from_ties.count(Section::Ties, shape.cells()).unwrap();
     for cell in 0..shape.cells() {
-        tile[cell] = cell_record(shape.top(), readings, ties, cell);
+        tile[cell] = next_record(shape.top(), &mut from_readings, &mut from_ties);
     }
 }

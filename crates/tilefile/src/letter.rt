@@ -1,27 +1,30 @@
 // The letter that names a file's price rule.
-ghost use Rattle.std.specs.Prelude.{◌≡◌, MatchOption};
-ghost use Rattle.tilefile.specs.Letters.{letter_byte, NamesOne};
+use crate::fault::Flaw;
 
+/// The letters that name a price rule.
 #[derive(Clone, Copy, PartialEq, Eq, Debug)]
 pub enum Letter {
-    // A
+    /// A
     Absolute,
-    // Q
+    /// Q
     Squared,
-    // L
+    /// L
     Leaning,
 }
 
-impl Letter {
-    // The letter that the byte is, if it names a rule.
-    pub fn of(byte: u8) -> Option<Letter>
-        ensures { MatchOption result (NamesOne byte → ⊥) (λ letter. byte ≡ letter_byte letter) }
-    {
+impl TryFrom<u8> for Letter {
+    type Error = Flaw;
+
+    ghost use Rattle.tilefile.specs.Letters.{ReadAsLetter};
+
+    ghost try_from_gives = { ReadAsLetter };
+
+    fn try_from(byte: u8) -> Result<Letter, Flaw> {
         match char::from(byte) {
-            'A' => Some(Letter::Absolute),
-            'Q' => Some(Letter::Squared),
-            'L' => Some(Letter::Leaning),
-            _ => None,
+            'A' => Ok(Letter::Absolute),
+            'Q' => Ok(Letter::Squared),
+            'L' => Ok(Letter::Leaning),
+            _ => Err(Flaw::Letter),
         }
     }
 }

@@ -4,6 +4,7 @@
 mod contents;
 pub mod examples;
 pub mod fault;
+mod front;
 mod laying;
 pub mod letter;
 mod reader;
@@ -13,7 +14,8 @@ pub mod rule;
 mod tests;
 
 pub use contents::Contents;
-pub use fault::{Fault, Flaw, Section};
+pub use fault::{EntryFlaw, Fault, Flaw, Section};
+pub use front::front_length;
 pub use letter::Letter;
 pub use reading::read_tile;
 pub use rule::LetterRule;

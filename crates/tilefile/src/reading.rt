@@ -9,8 +9,8 @@ use crate::letter::Letter;
 use filter::Draft;
 use tile::Cell;
 
-// Reads a tile file into the records, and answers the draft that they are and the letter of the price rule. A file with a fault is
-// refused with the first one, and the records are as they were.
+/// Reads a tile file into the records, and answers the draft that they are and the letter of the price rule. A file with a fault is
+/// refused with the first one, and the records are as they were.
 pub fn read_tile(bytes: &[u8], tile: &mut [Cell]) -> Result<(Draft, Letter), Fault>
     ensures does { ReadDoes bytes.now tile.old result tile.new }
     // What is accepted is a layout of what is answered, byte for byte; and every layout is accepted.

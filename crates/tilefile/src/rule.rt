@@ -8,6 +8,7 @@ use crate::letter::Letter;
 use limits::Refusal;
 use price::{Absolute, Leaning, PriceRule, Squared};
 
+/// The price rule of a letter.
 #[derive(Clone, Copy)]
 pub enum LetterRule {
     Absolute(Absolute),
@@ -16,7 +17,7 @@ pub enum LetterRule {
 }
 
 impl LetterRule {
-    // The rule of the letter, made for this greatest level.
+    /// The rule of the letter, made for this greatest level.
     pub fn new(letter: Letter, greatest: u16) -> Result<LetterRule, Refusal>
         ensures { MadeFor greatest (λ r. named_rule r ≡ letter_rule letter greatest) result }
     {

@@ -1,4 +1,4 @@
-use crate::{Contents, Fault, Flaw, Letter, Section, read_tile};
+use crate::{Contents, EntryFlaw, Fault, Flaw, Letter, Section, read_tile};
 use limits::Refusal;
 use std::process::Abort;
 use std::test::Fail;
@@ -87,7 +87,7 @@ fn contents_of_a_file(rt: HostRuntime) -> Result<(), Fail> {
 fn reading_above_top(rt: HostRuntime) -> Result<(), Fail> {
     let fault = fault_of(&rt, &two_cells(11)[0..29])?;
     assert_eq!(rt; (fault.section, fault.place), (Section::Readings, 16));
-    assert_eq!(rt; fault.flaw, Flaw::Entry(Refusal::Reading));
+    assert_eq!(rt; fault.flaw, Flaw::Entry(EntryFlaw::Reading));
     assert_eq!(rt;
         format!(in rt.alloc(); "{fault}")?.as_str(),
         "refused 14 3 16 5"

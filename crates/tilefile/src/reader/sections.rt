@@ -2,18 +2,15 @@
 ghost use Rattle.std.specs.Prelude.{◌≡◌, ℕ, ◌+◌, ◌<◌, drop, slice_index_or, IsErrOf, IsOkAnd};
 ghost use Rattle.limits.specs.Limits.{most_rows};
 ghost use Rattle.tile.specs.Shapes.{cells, MadeOf};
-ghost use Rattle.filter.specs.Checks.{StartChecked};
-ghost use Rattle.tilefile.specs.declared.fault.Section.TheVariants.{Ties};
-ghost use Rattle.tilefile.specs.declared.fault.Flaw.TheVariants.{Entry};
+ghost use Rattle.tilefile.specs.declared.fault.Section.TheVariants.{Readings, Ties};
 ghost use Rattle.tilefile.specs.Letters.{letter_byte};
 ghost use Rattle.tilefile.specs.Bytes.{byte_at, number_at};
 ghost use Rattle.tilefile.specs.Files.{CellsChecked};
-ghost use Rattle.tilefile.specs.Sections.{WholeChecked, CountChecked, RuleChecked, rows_at, columns_at, top_at, ShapeChecked, ReadingChecked, reading_place, ReadingsChecked, TieChecked, ties_place, TiesChecked, EndChecked};
+ghost use Rattle.tilefile.specs.Sections.{WholeChecked, CountChecked, RuleChecked, rows_at, columns_at, top_at, StartChecked, ShapeChecked, class_at, ReadingChecked, reading_place, ReadingsChecked, TieChecked, ties_place, TiesChecked, EndChecked};
 
-use crate::fault::{Fault, Flaw, Section};
+use crate::fault::{EntryFlaw, Fault, Flaw, Section};
 use crate::letter::Letter;
 use crate::reader::Reader;
-use limits::Refusal;
 use passes::{are_ties_sound, is_reading_sound};
 use tile::Shape;
 
@@ -33,7 +30,7 @@ impl<'a> Reader<'a> {
     }
 
     // The count of a section, which has to be this one.
-    fn count(&mut self, section: Section, cells: usize) -> Result<(), Fault>
+    pub(crate) fn count(&mut self, section: Section, cells: usize) -> Result<(), Fault>
         ensures bytes { self.new.bytes ≡ self.old.bytes }
         ensures checked { CountChecked self.old.bytes.now section self.old.place cells (λ e. result ≡ Err e) ((result ≡ Ok tt) × (self.new.place ≡ self.old.place + 2)) }
     {
@@ -58,10 +55,10 @@ impl<'a> Reader<'a> {
         self.count(Section::Rule, 1)?;
         let place = self.place;
         let [byte] = self.item::<1>(Section::Rule)?;
-        let letter = Letter::of(byte).ok_or(Fault {
+        let letter = Letter::try_from(byte).map_err(|flaw| Fault {
             section: Section::Rule,
             place,
-            flaw: Flaw::Letter,
+            flaw,
         })?;
         Ok((letter, self.rest()))
     }
@@ -85,23 +82,33 @@ impl<'a> Reader<'a> {
         .map_err(|flaw| Fault {
             section: Section::Shape,
             place,
-            flaw,
+            flaw: Flaw::Entry(flaw),
         })?;
         Ok((shape, self.rest()))
     }
 
-    // One entry of Readings: a reading of its class.
+    // One entry of Readings: a reading and its class.
+    pub(crate) fn reading_entry(&mut self) -> Result<(u16, u8), Fault>
+        ensures bytes { self.new.bytes ≡ self.old.bytes }
+        ensures checked { WholeChecked self.old.bytes.now Readings self.old.place 3 (λ e. result ≡ Err e)
+            ((result ≡ Ok (number_at self.old.bytes.now self.old.place, class_at self.old.bytes.now self.old.place)) × (self.new.place ≡ self.old.place + 3)) }
+    {
+        let [high, low, class] = self.item::<3>(Section::Readings)?;
+        Ok((u16::from_be_bytes([high, low]), class))
+    }
+
+    // The same, and that put would accept it.
     fn reading(&mut self, shape: Shape) -> Result<(), Fault>
         ensures bytes { self.new.bytes ≡ self.old.bytes }
         ensures checked { ReadingChecked shape self.old.bytes.now self.old.place (λ e. result ≡ Err e) ((result ≡ Ok tt) × (self.new.place ≡ self.old.place + 3)) }
     {
         let place = self.place;
-        let [high, low, class] = self.item::<3>(Section::Readings)?;
-        if !is_reading_sound(shape.top(), u16::from_be_bytes([high, low]), class) {
+        let (reading, class) = self.reading_entry()?;
+        if !is_reading_sound(shape.top(), reading, class) {
             return Err(Fault {
                 section: Section::Readings,
                 place,
-                flaw: Flaw::Entry(Refusal::Reading),
+                flaw: Flaw::Entry(EntryFlaw::Reading),
             });
         }
         Ok(())
@@ -121,7 +128,7 @@ impl<'a> Reader<'a> {
     }
 
     // One entry of Ties: the right and the down tie of a cell.
-    fn two_ties(&mut self) -> Result<(u16, u16), Fault>
+    pub(crate) fn ties_entry(&mut self) -> Result<(u16, u16), Fault>
         ensures bytes { self.new.bytes ≡ self.old.bytes }
         ensures checked { WholeChecked self.old.bytes.now Ties self.old.place 4 (λ e. result ≡ Err e)
             ((result ≡ Ok (number_at self.old.bytes.now self.old.place, number_at self.old.bytes.now (self.old.place + 2))) × (self.new.place ≡ self.old.place + 4)) }
@@ -137,12 +144,12 @@ impl<'a> Reader<'a> {
         ensures checked { TieChecked shape self.old.bytes.now self.old.place cell (λ e. result ≡ Err e) ((result ≡ Ok tt) × (self.new.place ≡ self.old.place + 4)) }
     {
         let place = self.place;
-        let (right, down) = self.two_ties()?;
+        let (right, down) = self.ties_entry()?;
         if !are_ties_sound(shape, cell, right, down) {
             return Err(Fault {
                 section: Section::Ties,
                 place,
-                flaw: Flaw::Entry(Refusal::Tie),
+                flaw: Flaw::Entry(EntryFlaw::Tie),
             });
         }
         Ok(())
@@ -189,12 +196,14 @@ impl<'a> Reader<'a> {
 }
 
 // The shape that start would make over so many records.
-fn asked_shape(rows: u16, columns: u16, top: u16, records: usize) -> Result<Shape, Flaw>
-    ensures { StartChecked rows columns top records (λ e. result ≡ Err (Entry e)) (IsOkAnd result (λ s. MadeOf most_rows rows columns top s)) }
+fn asked_shape(rows: u16, columns: u16, top: u16, records: usize) -> Result<Shape, EntryFlaw>
+    ensures { StartChecked rows columns top records (λ e. result ≡ Err e) (IsOkAnd result (λ s. MadeOf most_rows rows columns top s)) }
 {
-    let shape = Shape::new(rows.into(), columns.into(), top)?;
+    let Ok(shape) = Shape::new(rows.into(), columns.into(), top) else {
+        return Err(EntryFlaw::Range);
+    };
     if records < shape.cells() {
-        return Err(Flaw::Entry(Refusal::FewRecords));
+        return Err(EntryFlaw::FewRecords);
     }
     Ok(shape)
 }

@@ -9,7 +9,7 @@ cd "$(dirname "$0")/.."
 want /usr/bin/perf linux-perf
 want /usr/bin/c++ g++
 install_wanted
-build_library
+build_libraries
 build loop bench/scenes.cpp bench/library.cpp bench/loop.cpp
 for scene in 0 1 2 3 4 5 6 7 8; do
     name=$(perf record -q -e cpu-clock -o "$built/data" "$built/loop" "$scene" "${1:-200}")

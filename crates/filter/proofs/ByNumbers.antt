@@ -21,7 +21,7 @@ use Rattle.tile.specs.declared.side.Side.TheVariants.{Rightward, Downward}
 use Rattle.tile.specs.Records.{stored_tie, stored_flow, stored_bracket}
 use Rattle.tile.specs.Ties.{Tie}
 use Rattle.tile.specs.Shapes.{cells, Ranged}
-use Rattle.tile.specs.Tiles.{Tile, cell, blank, problem}
+use Rattle.tile.specs.Tiles.{Tile, cell, blank, problem, heights}
 use Rattle.flow.specs.Networks.{network, charges, flow_on, is_live}
 use Rattle.flow.specs.Sides.{uncut}
 use Rattle.flow.specs.Points.{FlowsFit, FourPoints}
@@ -31,7 +31,7 @@ use Rattle.filter.specs.declared.states.Draft.{Draft}
 use Rattle.filter.specs.declared.states.Rounding.{Rounding}
 use Rattle.filter.specs.declared.answers.Refused.{Refused}
 use Rattle.filter.specs.Checks.{Inside}
-use Rattle.filter.specs.Calls.{heights, LeavesAll, StartDoes, PutDoes, BeginDoes, RoundDoes, FinishDoes}
+use Rattle.filter.specs.Calls.{LeavesAll, StartDoes, PutDoes, BeginDoes, RoundDoes, FinishDoes}
 use Rattle.filter.specs.Runs.{History, surveyed, tied_at, finished, begun, rounded, reopened, put_at, put, begin, round, finish, draft, rounding, level, Run, started, then, Lent}
 use Rattle.filter.specs.Examples.{HistoriesAreRead, LendingIsRead, RunsCanBeMet, StartsAreRead, DraftCallsAreRead, RoundCallsAreRead, LevelCallsAreRead, one_cell, tall_cell, drafted, no_round_done, one_round_done, levelled, tall_rounding, put_in, ended, calls, given_back}
 use Rattle.filter.proofs.Keeps.{every_run}

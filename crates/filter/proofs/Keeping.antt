@@ -14,7 +14,7 @@ use Rattle.tile.specs.declared.side.Side.TheVariants.{Rightward, Downward}
 use Rattle.tile.specs.Halving.{from_to, half_toward, halving, Holds, RoundsOver}
 use Rattle.tile.specs.Records.{stored_tie, stored_bracket, recharged}
 use Rattle.tile.specs.Shapes.{cells}
-use Rattle.tile.specs.Tiles.{Tile, Survey, cell, blank, survey, problem}
+use Rattle.tile.specs.Tiles.{Tile, Survey, cell, blank, survey, problem, heights}
 use Rattle.tile.proofs.Halves.{halving_holds, halving_over, halving_alike}
 use Rattle.tile.proofs.Joins.{ties_join_cells}
 use Rattle.flow.specs.Points.{FourPoints}
@@ -26,7 +26,6 @@ use Rattle.passes.proofs.Rewrites.{cell_rewritten, rewritten_length}
 use Rattle.filter.specs.declared.states.Draft.{Draft}
 use Rattle.filter.specs.declared.states.Rounding.{Rounding}
 use Rattle.filter.specs.declared.states.Level.{Level}
-use Rattle.filter.specs.Calls.{heights}
 use Rattle.filter.specs.Runs.{Accepted, put_at, tied_at, begun, rounded, finished, reopened, History, surveyed, State, draft, rounding, level, shape_of, done_of}
 use Rattle.filter.specs.Laws.{Recorded}
 use Rattle.filter.proofs.Grids.{exists}

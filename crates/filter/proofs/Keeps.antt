@@ -12,11 +12,11 @@ use Rattle.tile.specs.declared.bracket.Bracket.{Bracket}
 use Rattle.tile.specs.declared.shape.Shape.{Shape}
 use Rattle.tile.specs.Halving.{Holds}
 use Rattle.tile.specs.Shapes.{cells}
-use Rattle.tile.specs.Tiles.{Tile, cell, blank}
+use Rattle.tile.specs.Tiles.{Tile, cell, blank, heights}
 use Rattle.tile.proofs.Halves.{halving_holds}
 use Rattle.filter.specs.declared.answers.Refused.{Refused}
 use Rattle.filter.specs.Checks.{Inside, place}
-use Rattle.filter.specs.Calls.{GivesBack, LeavesAll, heights}
+use Rattle.filter.specs.Calls.{GivesBack, LeavesAll}
 use Rattle.filter.specs.Runs.{Accepted, put_at, tied_at, begun, rounded, finished, reopened, History, surveyed, State, draft, rounding, level, shape_of, done_of, added, next, Call, Lent, Run}
 use Rattle.filter.specs.Laws.{SameShape, EveryRunKeepsTheLaw}
 use Rattle.filter.proofs.Grids.{exists, compare}

@@ -4,7 +4,6 @@ pub mod Outcomes
 pub mod Keeping
 pub mod Keeps
 pub mod Joining
-pub mod Heights
 pub mod Rounds
 pub mod RunsKept
 pub mod Places

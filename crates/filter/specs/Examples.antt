@@ -7,14 +7,14 @@ use Rattle.price.specs.Kinds.{absolute}
 use Rattle.theory.specs.Grids.{LowestCheapestGrid}
 use Rattle.tile.specs.declared.shape.Shape.{Shape}
 use Rattle.tile.specs.declared.side.Side.TheVariants.{Rightward, Downward}
-use Rattle.tile.specs.Tiles.{Tile, blank, problem}
+use Rattle.tile.specs.Tiles.{Tile, blank, problem, heights}
 use Rattle.flow.specs.Points.{FourPoints}
 use Rattle.passes.specs.Writing.{with_reading, weights, fresh}
 use Rattle.filter.specs.declared.states.Draft.{Draft}
 use Rattle.filter.specs.declared.states.Rounding.{Rounding}
 use Rattle.filter.specs.declared.states.Level.{Level}
 use Rattle.filter.specs.declared.answers.Refused.{Refused}
-use Rattle.filter.specs.Calls.{heights, StartDoes, PutDoes, TieDoes, BeginDoes, RoundDoes, FinishDoes, ReopenDoes, HeightDoes, CostDoes}
+use Rattle.filter.specs.Calls.{StartDoes, PutDoes, TieDoes, BeginDoes, RoundDoes, FinishDoes, ReopenDoes, HeightDoes, CostDoes}
 use Rattle.filter.specs.Runs.{put_at, tied_at, begun, rounded, finished, reopened, History, Finished, surveyed, State, rounding, level, added, Lent, Run}
 use Rattle.filter.specs.Laws.{SameShape, Raised}
 

@@ -7,9 +7,8 @@ use Rattle.tile.specs.declared.side.Side.{Side}
 use Rattle.tile.specs.Halving.{from_to, Holds}
 use Rattle.tile.specs.Records.{stored_tie, stored_bracket}
 use Rattle.tile.specs.Shapes.{cells}
-use Rattle.tile.specs.Tiles.{Tile, Survey, cell, problem}
+use Rattle.tile.specs.Tiles.{Tile, Survey, cell, problem, heights}
 use Rattle.passes.specs.Soundness.{Sound}
-use Rattle.filter.specs.Calls.{heights}
 use Rattle.filter.specs.Runs.{History, Finished, surveyed, State, shape_of, done_of, Run}
 
 -- the same rows, columns and top

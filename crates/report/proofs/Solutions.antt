@@ -10,11 +10,11 @@ use Rattle.tile.specs.declared.shape.Shape.{Shape}
 use Rattle.tile.specs.declared.side.Side.{Side}
 use Rattle.tile.specs.Records.{stored_tie}
 use Rattle.tile.specs.Shapes.{cells}
-use Rattle.tile.specs.Tiles.{Tile, Survey, cell, blank, survey, problem}
+use Rattle.tile.specs.Tiles.{Tile, Survey, cell, blank, survey, problem, heights}
 use Rattle.passes.proofs.Rewrites.{rewritten_length, cell_past}
 use Rattle.filter.specs.declared.states.Draft.{Draft}
 use Rattle.filter.specs.declared.states.Level.{Level}
-use Rattle.filter.specs.Calls.{heights, CostDoes, SurveyKept}
+use Rattle.filter.specs.Calls.{CostDoes, SurveyKept}
 use Rattle.filter.specs.Runs.{surveyed, draft, level, Lent, Run}
 use Rattle.filter.proofs.Keeps.{every_run}
 use Rattle.filter.proofs.Resurveyed.{SameSurvey, energy_resurveyed}

@@ -7,8 +7,7 @@ use Rattle.theory.specs.Grids.{LowestCheapestGrid, energy}
 use Rattle.tile.specs.declared.shape.Shape.{Shape}
 use Rattle.tile.specs.Halving.{RoundsDue}
 use Rattle.tile.specs.Shapes.{cells}
-use Rattle.tile.specs.Tiles.{Tile, Survey, problem}
-use Rattle.filter.specs.Calls.{heights}
+use Rattle.tile.specs.Tiles.{Tile, Survey, problem, heights}
 use Rattle.solve.specs.Solving.{PastKept}
 use Rattle.tilefile.specs.declared.letter.Letter.{Letter}
 use Rattle.tilefile.specs.Bytes.{byte_at}

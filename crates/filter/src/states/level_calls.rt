@@ -1,6 +1,5 @@
 // The calls once every cell has one height.
-ghost use Rattle.std.specs.Prelude.{◌≡◌, map};
-ghost use Rattle.tile.specs.declared.cell.Cell.{Cell as Record};
+ghost use Rattle.std.specs.Prelude.{◌≡◌};
 ghost use Rattle.filter.specs.Calls.{ReopenDoes, HeightDoes, CostDoes};
 ghost use Rattle.filter.specs.Runs.{draft, level, reopened, GoesOn};
 ghost use Rattle.filter.specs.Laws.{EveryRunKeepsTheLaw};
@@ -11,26 +10,7 @@ use crate::states::{Draft, Level};
 use limits::Refusal;
 use passes::low_end;
 use price::PriceRule;
-use tile::{Cell, HeightGrid, energy};
-
-// The grid of heights that records hold: each cell's low end. `HeightList` is the same over numbers; one implementation for
-// both, over a trait of what has a height, would be longer than the two.
-#[derive(Clone, Copy)]
-struct LowEnds<'a> {
-    tile: &'a [Cell],
-}
-
-impl<'a> HeightGrid for LowEnds<'a> {
-    ghost heights = { λ g. map (λ (c : Record). c.low) g.tile.now };
-
-    fn count(&self) -> usize {
-        self.tile.len()
-    }
-
-    fn height(&self, cell: usize) -> u16 {
-        self.tile.get(cell).map_or(0, low_end)
-    }
-}
+use tile::{Cell, energy};
 
 impl Level {
     /// How many rows the tile has.
@@ -67,7 +47,7 @@ impl Level {
         ensures { CostDoes (P.PriceRule.rule rule.now) self.now tile.now result }
     {
         self.check_cost(tile, rule.greatest())?;
-        energy(rule, self.shape, tile, &LowEnds { tile })
+        Ok(energy(rule, self.shape, tile).unwrap())
     }
 
     /// Goes back to a draft: keeps readings, classes and ties, and resets the rest as start does.

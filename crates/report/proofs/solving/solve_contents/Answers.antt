@@ -2,8 +2,7 @@ use Rattle.std.proofs.Common.{length, ap, ◌∙◌, subst, arith}
 use Rattle.theory.specs.Grids.{energy}
 use Rattle.tile.specs.Halving.{RoundsDue}
 use Rattle.tile.specs.Shapes.{cells}
-use Rattle.tile.specs.Tiles.{problem}
-use Rattle.filter.specs.Calls.{heights}
+use Rattle.tile.specs.Tiles.{problem, heights}
 use Rattle.filter.specs.Runs.{surveyed}
 use Rattle.filter.proofs.Resurveyed.{lowest_resurveyed}
 use Rattle.tilefile.specs.Contents.{contents_survey}

@@ -28,8 +28,7 @@ long long Tile::solve(const std::vector<std::uint8_t> &file) {
     return static_cast<long long>(solution.energy);
 }
 
-void Tile::begin(const Scene &scene) {
-    const auto file = tile_file(scene);
+void Tile::begin(const Scene &scene, const std::vector<std::uint8_t> &file) {
     rows_ = scene.rows;
     columns_ = scene.columns;
     top_ = static_cast<std::uint16_t>(scene.top);

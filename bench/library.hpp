@@ -19,8 +19,8 @@ class Tile {
     // Solves a tile file; answers the energy, and the low ends are the heights.
     long long solve(const std::vector<std::uint8_t> &file);
 
-    // The same round by round: a scene is read as a draft, and then comes one round after the other.
-    void begin(const Scene &scene);
+    // The same round by round: a scene's file is read as a draft, and then comes one round after the other.
+    void begin(const Scene &scene, const std::vector<std::uint8_t> &file);
     void round();
 
     // Lays a charged tile into the records; cuts what was laid.

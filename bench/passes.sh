@@ -1,5 +1,6 @@
 #!/bin/sh
-# Prints which part of a terrain solve by push-relabel is not in its cuts: the reader and the passes of each round, by a profiler (docs/SPEED.md).
+# Prints which part of reading a terrain tile and doing its rounds by push-relabel is not in the cuts: the reader and the passes of each round, by a
+# profiler (docs/SPEED.md).
 #
 #     bench/passes.sh [TIMES]
 set -eu

@@ -15,7 +15,6 @@ use Rattle.filter.specs.declared.answers.Refused.{Refused}
 use Rattle.filter.specs.Calls.{Started, StartDoes, SurveyKept}
 use Rattle.filter.specs.Runs.{surveyed, Begins, Lent, Run, draft}
 use Rattle.solve.specs.Solving.{PastKept, FinishedRun, SolvesRuns}
-use Rattle.cases.specs.Outside.{SameHistory}
 use Rattle.cases.specs.OneCell.{OneCellStarted, OneCellSolved}
 
 -- such a tile has one cell
@@ -46,21 +45,9 @@ one_started t answer t' d whole s begins e =
       run = λ rule. subst (λ (k : ℕ). Run rule d.shape [] (draft d) (take k t')) (one d.shape made) (begins d e rule);
     }
 
--- ---- the refused put
-
 -- a run of one cell, by all the cells of its shape
 by_cells : (d : Draft) (t : Tile) (rule : Rule) → OneCellStarted d t → Run rule d.shape [] (draft d) (take (cells d.shape) t)
 by_cells d t rule s = subst (λ (k : ℕ). Run rule d.shape [] (draft d) (take k t)) (sym (one d.shape s.made)) (s.run rule)
-
-pub still_started : (d d' : Draft) (t t' : Tile) → OneCellStarted d t → d' ≡ d → t' ≡ t → SameHistory d t d' t' → OneCellStarted d' t'
-still_started d d' t t' s same_d same_t same = record {
-  made = subst (λ (x : Draft). MadeOf most_rows 1 1 1 x.shape) (sym same_d) s.made;
-  whole = subst (λ (z : Tile). 1 ≤ length z) (sym same_t) s.whole;
-  run = λ rule.
-      let on : Run rule d.shape [] (draft d') (take (cells d.shape) t') =
-      same rule d.shape [] (take (cells d.shape) t) (take (cells d.shape) t') (by_cells d t rule s) (Lent.all (omega (arith, one d.shape s.made, s.whole))) in
-      subst (λ (z : Draft). Run rule z.shape [] (draft d') (take 1 t')) (sym same_d) (subst (λ (k : ℕ). Run rule d.shape [] (draft d') (take k t')) (one d.shape s.made) on);
-}
 
 -- ---- solve
 
@@ -88,8 +75,3 @@ one_solved rule d t answer t' l s ends e = record {
 -- what solve keeps has no less
 pub kept_past : (d : Draft) (t t' : Tile) → OneCellStarted d t → SurveyKept d.shape t t' → PastKept 1 t t'
 kept_past d t t' s k = record { long = k.long; past = λ u l. k.past u (omega (arith, one d.shape s.made)) }
-
--- ---- all together
-
-pub past_more : (t u v : Tile) → PastKept 1 t u → PastKept 1 u v → PastKept 1 t v
-past_more t u v a b = record { long = b.long ∙ a.long; past = λ c l. b.past c l ∙ a.past c l }

@@ -227,7 +227,7 @@ solves_runs rule lawful leaves d t n answer t' does ends s h r r' run lent =
     let first : Run rule s h (draft d) (take (cells s) t) = subst (λ (z : Tile). Run rule s h (draft d) z) lends.0 run in
     let own : Run rule d.shape h (draft d) (take (cells d.shape) t) = subst (λ (z : Shape). Run rule z h (draft d) (take (cells z) t)) (sym same) first in
     let end : (l : Level) → answer ≡ Ok l → FinishedRun rule s (surveyed h) l r' = λ l e.
-        subst (λ (z : Tile). FinishedRun rule s (surveyed h) l z) (sym lends.1) (subst (λ (z : Shape). FinishedRun rule z (surveyed h) l (take (cells z) t')) same (ends l e h own)) in
+    subst (λ (z : Tile). FinishedRun rule s (surveyed h) l z) (sym lends.1) (subst (λ (z : Shape). FinishedRun rule z (surveyed h) l (take (cells z) t')) same (ends l e h own)) in
     mapped (λ _ k. k) (mapped (λ _ k. k) (okay answer (λ l. Solved rule leaves s t l t') (λ l. FinishedRun rule s (surveyed h) l r') end))
     (surely (sound_slice every_run rule lawful s h (draft d) t first) rest))
     (subst (λ (z : Shape). TileChecked z 0 t (LeavesAll d t answer t') (RoundsChecked z n rule.greatest (LeavesAll d t answer t') (IsOkAnd answer (λ l. Solved rule leaves z t l t')))) same does)
@@ -236,7 +236,7 @@ pub runs_refused : (rule : Rule) → Lawful rule → (leaves : Shape → Tile �
 runs_refused rule lawful leaves d t n why found =
     let answer : Result Level (Refused Draft) = Err (record { state = d; why = why }) in
     let left : (e : Refusal) → ◌≡◌ {A = Result (Unit {0}) Refusal} (Err why) (Err e) → LeavesAll d t answer t e = λ e z.
-        (let same : why ≡ e = cc z in (ap (λ (k : Refusal). Err (record { state = d; why = k })) same, refl)) in
+    (let same : why ≡ e = cc z in (ap (λ (k : Refusal). Err (record { state = d; why = k })) same, refl)) in
     solves_runs rule lawful leaves d t n answer t (mapped left (mapped left (mapped left (mapped left (λ z. not_both (Err why) tt why z refl)))) found) (λ l e. not_both answer l (record { state = d; why = why }) e refl)
 
 pub runs_solved : (rule : Rule) → Lawful rule → (leaves : Shape → Tile → Tile → Type 0) (d : Draft) (t : Tile) (n : ℕ) (l : Level) (t' : Tile) → Found rule d t n (Ok tt) → Solved rule leaves d.shape t l t' → EndsRuns rule d t l t' →

@@ -7,6 +7,8 @@ ghost use Rattle.cases.specs.Worked.{WorkedTilesAreRight};
 pub mod one_cell;
 pub mod outside;
 #[cfg(test)]
+mod readme;
+#[cfg(test)]
 mod running;
 #[cfg(test)]
 mod tests;

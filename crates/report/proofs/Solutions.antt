@@ -1,5 +1,5 @@
 -- From the contracts of filling and solving to the solution of a file.
-use Rattle.std.proofs.Common.{◌≡◌, ℕ, suc, ◌+◌, ◌^◌, ◌<◌, ◌≤◌, length, take, Ok, Err, Result, IsOk, IsOkAnd, IfOk, refl, sym, ap, ◌∙◌, subst, ⊎_elim, arith}
+use Rattle.std.proofs.Common.{◌≡◌, ℕ, ◌+◌, ◌^◌, ◌<◌, ◌≤◌, length, take, Ok, Err, Result, IsOk, IsOkAnd, IfOk, refl, sym, ap, ◌∙◌, subst, ⊎_elim, arith}
 use Rattle.std.proofs.lemmas.Bool.{cases_lt}
 use Rattle.limits.specs.declared.refusal.Refusal.{Refusal}
 use Rattle.limits.proofs.Outcomes.{surely}
@@ -22,7 +22,6 @@ use Rattle.filter.specs.declared.states.Level.{Level}
 use Rattle.filter.specs.declared.answers.Refused.{Refused}
 use Rattle.filter.specs.Checks.{TileChecked}
 use Rattle.filter.specs.Calls.{LeavesAll, CostDoes, SurveyKept}
-use Rattle.filter.specs.Laws.{Recorded}
 use Rattle.filter.specs.Runs.{surveyed, draft, Lent, Run}
 use Rattle.filter.proofs.Keeps.{every_run}
 use Rattle.filter.proofs.Narrowing.{narrowed_kept}

@@ -13,10 +13,22 @@ use Rattle.limits.proofs.Outcomes.{surely}
 use Rattle.filter.specs.Calls.{HalvedBy}
 use Rattle.filter.specs.Runs.{surveyed}
 use Rattle.filter.proofs.Resurveyed.{SameSurvey, lowest_resurveyed}
-use Rattle.filter.specs.Examples.{one_cell, levelled, calls, put_in, ended}
+use Rattle.filter.specs.Examples.{one_cell, calls, put_in, ended}
 use Rattle.filter.proofs.ByNumbers.{put_sound, sound_at_1, runs, round_calls}
 use Rattle.solve.specs.Solving.{HalvedTimes, none, more}
-use Rattle.solve.specs.Examples.{SolvingIsRead, solved}
+use Rattle.solve.specs.Examples.{SamplesAreRead, SolvingIsRead, solved}
+
+pub samples : SamplesAreRead
+samples = record {
+  reading_of_the_second = refl;
+  class_of_the_second = refl;
+  tie_to_the_right = refl;
+  tie_downward = refl;
+  no_third_sample = refl;
+  second_cell_of_the_row = record { row = refl; column = refl };
+  number_of_a_call = refl;
+  few_samples_have_no_number = refl;
+}
 
 past : (u : ℕ) → 1 ≤ u → cell (second ∷ second ∷ []) u ≡ cell (first ∷ second ∷ []) u
 past zero l = absurd (omega arith)

@@ -1,2 +1,4 @@
 pub mod Steps
+pub mod Written
+pub mod Surveyed
 pub mod ByNumbers

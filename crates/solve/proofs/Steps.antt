@@ -1,5 +1,5 @@
 -- The steps of solve, from the contracts of the calls.
-use Rattle.std.proofs.Common.{◌≡◌, ℕ, zero, suc, ◌+◌, ◌^◌, ◌<◌, ◌≤◌, ◌∷◌, ◌++◌, length, take, IsOk, IfOk, IsOkAnd, Ok, Err, Result, sym, refl, ap, ◌∙◌, subst, ⊎_elim, add-one, arith}
+use Rattle.std.proofs.Common.{◌≡◌, ℕ, suc, ◌+◌, ◌^◌, ◌<◌, ◌≤◌, ◌∷◌, ◌++◌, take, IsOk, IfOk, IsOkAnd, Ok, Err, Result, sym, refl, ap, ◌∙◌, subst, ⊎_elim, add-one, arith}
 use Rattle.std.proofs.lemmas.Bool.{cases_lt}
 use Rattle.limits.specs.declared.refusal.Refusal.{Refusal}
 use Rattle.limits.specs.Checking.{passed}
@@ -9,7 +9,7 @@ use Rattle.tile.specs.declared.bracket.Bracket.{Bracket}
 use Rattle.tile.specs.declared.shape.Shape.{Shape}
 use Rattle.tile.specs.Halving.{RoundsOver, RoundLeft, RoundsDue}
 use Rattle.tile.specs.Shapes.{cells}
-use Rattle.tile.specs.Tiles.{Tile, Survey, cell, survey, heights}
+use Rattle.tile.specs.Tiles.{Tile, Survey, survey}
 use Rattle.flow.specs.Points.{FourPoints}
 use Rattle.passes.specs.Soundness.{Sound}
 use Rattle.filter.specs.declared.states.Draft.{Draft}
@@ -23,7 +23,7 @@ use Rattle.filter.specs.Runs.{begun, rounded, finished, History, surveyed, State
 use Rattle.filter.proofs.Keeps.{every_run}
 use Rattle.filter.proofs.Keeping.{Held, draft_held, round_held, ends_at, lowest_held}
 use Rattle.filter.proofs.RunsKept.{not_both, run_shape, sound_slice, lent_whole}
-use Rattle.solve.specs.Solving.{HalvedTimes, none, more, RoundsChecked, Fit, Ready, Led, Onward, Opened, RoundReady, RoundDone, RoundsReady, RoundsDone, RoundsBehind, Closed, Solved, EndsRuns, FinishedRun, SolveDoes, SolvesRuns}
+use Rattle.solve.specs.Solving.{HalvedTimes, none, more, RoundsChecked, Fit, Ready, Onward, Opened, RoundReady, RoundDone, RoundsReady, RoundsDone, RoundsBehind, Closed, Solved, EndsRuns, FinishedRun, SolveDoes, SolvesRuns}
 
 -- an accepted call goes on as its answer says
 pub goes : {S X : Type 0} {rule : Rule} {s : Shape} {h : History} (back : S → State) (on : X → State) {a : _} (answer : Result X (Refused S)) (v : X) {r : Tile} → answer ≡ Ok v →

@@ -1,13 +1,31 @@
--- Examples in numbers, which pin the definitions: a tile of one cell with the reading 1.
-use Rattle.std.specs.Prelude.{◌≡◌, [], ◌∷◌, Ok, neg_ℤ, pos}
+-- Examples in numbers, which pin the definitions: a tile of one cell with the reading 1, and samples of two cells.
+use Rattle.std.specs.Prelude.{◌≡◌, List, [], ◌∷◌, Ok, neg_ℤ, pos}
 use Rattle.limits.specs.declared.refusal.Refusal.TheVariants.{FewRecords, FewEntries, Ceiling}
 use Rattle.price.specs.Kinds.{absolute}
 use Rattle.tile.specs.Tiles.{Tile}
-use Rattle.tile.specs.Examples.{first, second}
+use Rattle.tile.specs.declared.side.Side.TheVariants.{Rightward, Downward}
+use Rattle.tile.specs.Examples.{two_in_a_row, first, second}
 use Rattle.flow.specs.Points.{FourPoints}
 use Rattle.filter.specs.Runs.{surveyed}
 use Rattle.filter.specs.Examples.{one_cell, drafted, levelled, put_in, ended, calls, given_back}
+use Rattle.solve.specs.declared.samples.Sample.{Sample}
+use Rattle.solve.specs.declared.samples.SamplesRefusal.TheVariants.{FewSamples, Call}
+use Rattle.solve.specs.Surveying.{At, sampled, samples_refusal_number}
 use Rattle.solve.specs.Solving.{PastKept, HalvedTimes, SolveDoes, FinishedRun}
+
+-- readings 0 and 10 of class 1, a tie of 6 to the right and one of 8 downward
+abbrev pub two_samples : List Sample
+two_samples = record { reading = 0; class = 1; right = 6; down = 8 } ∷ record { reading = 10; class = 1; right = 0; down = 0 } ∷ []
+
+pub record SamplesAreRead : Type 0 where
+  pub reading_of_the_second : (sampled two_samples).reading 1 ≡ 10
+  pub class_of_the_second : (sampled two_samples).class 1 ≡ 1
+  pub tie_to_the_right : (sampled two_samples).tie 0 Rightward ≡ 6
+  pub tie_downward : (sampled two_samples).tie 0 Downward ≡ 8
+  pub no_third_sample : (sampled two_samples).reading 2 ≡ 0
+  pub second_cell_of_the_row : At two_in_a_row 1 0 1
+  pub number_of_a_call : samples_refusal_number (Call Ceiling) ≡ 8
+  pub few_samples_have_no_number : samples_refusal_number FewSamples ≡ 0
 
 -- what solving leaves of the cell: charge −1, the mark 1, and the height 1
 abbrev pub solved : Tile

@@ -1,2 +1,3 @@
 pub mod Solving
+pub mod Surveying
 pub mod Examples

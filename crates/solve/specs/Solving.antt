@@ -3,7 +3,7 @@ use Rattle.std.specs.Prelude.{◌≡◌, ℕ, zero, suc, ◌+◌, ◌<◌, ◌�
 use Rattle.limits.specs.declared.refusal.Refusal.{Refusal}
 use Rattle.limits.specs.declared.refusal.Refusal.TheVariants.{FewRecords, FewEntries, Ceiling}
 use Rattle.limits.specs.Checking.{Checked}
-use Rattle.price.specs.Rules.{Rule, Lawful}
+use Rattle.price.specs.Rules.{Rule}
 use Rattle.theory.specs.Grids.{LowestCheapestGrid}
 use Rattle.tile.specs.declared.shape.Shape.{Shape}
 use Rattle.tile.specs.Halving.{RoundsOver, RoundLeft, RoundsDue}

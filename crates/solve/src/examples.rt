@@ -1,7 +1,8 @@
 // The definitions by examples in numbers.
-ghost use Rattle.solve.specs.Examples.{SolvingIsRead};
+ghost use Rattle.solve.specs.Examples.{SamplesAreRead, SolvingIsRead};
 
-// What solving a tile of one cell answers and leaves.
+// What samples are, and what solving a tile of one cell answers and leaves.
 pub fn examples()
+    ensures samples { SamplesAreRead }
     ensures solving { SolvingIsRead }
 {}

@@ -1,4 +1,4 @@
-use Rattle.std.proofs.Common.{length, IsOkAnd, ap, ◌∙◌, subst, arith}
+use Rattle.std.proofs.Common.{length, ap, ◌∙◌, subst}
 use Rattle.theory.specs.Grids.{energy}
 use Rattle.tile.specs.Halving.{RoundsDue}
 use Rattle.tile.specs.Tiles.{problem, heights}

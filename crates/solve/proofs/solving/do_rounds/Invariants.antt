@@ -1,4 +1,3 @@
-use Rattle.std.proofs.Common.{length}
 use Rattle.solve.proofs.Steps.{RoundsFar}
 use Rattle.solve.proofs.solving.do_rounds.Given as goal
 

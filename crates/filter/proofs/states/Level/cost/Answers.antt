@@ -1,4 +1,4 @@
-use Rattle.filter.proofs.Outcomes.{rated, found_whole, cost_made}
+use Rattle.filter.proofs.Outcomes.{cost_made}
 use Rattle.filter.proofs.states.Level.cost.Goals as goal
 
 pub returns : goal.returns

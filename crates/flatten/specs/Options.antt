@@ -1,15 +1,11 @@
--- What the arguments of flatten ask for.
-use Rattle.std.specs.Prelude.{◌≡◌, ◌≢◌, ℕ, ◌<◌, ◌^◌, List, [], ◌∷◌, Option, Some, None, codes}
+-- What the values of the arguments come to.
+use Rattle.std.specs.Prelude.{◌≡◌, ℕ, ◌<◌, ◌^◌, ◌*◌, min, List, Option, Some, codes}
 use Rattle.std.specs.Str.Parse.{IsNumeral, digits_value, without_leading_plus}
+use Rattle.limits.specs.Limits.{most_rows, most_columns}
+use Rattle.clap.specs.Words.{found_of, first_value, one_text}
+use Rattle.clap.specs.declared.parser.matches.ArgMatches.{ArgMatches}
 use Rattle.flatten.specs.declared.options.Cut.{Cut}
 use Rattle.flatten.specs.declared.options.Cut.TheVariants.{Paths, Push}
-use Rattle.flatten.specs.declared.options.Options.{Options}
-use Rattle.flatten.specs.declared.options.Asked.{Asked}
-use Rattle.flatten.specs.declared.options.Asked.TheVariants.{Help, Solution}
-
--- 1,024 records, cut by push-relabel
-abbrev pub defaults : Options
-defaults = record { records = 1024; cut = Push }
 
 -- the name of a cut maker
 abbrev pub cut_name : Cut → List ℕ
@@ -22,15 +18,10 @@ pub record IsNumber (text : List ℕ) (n : ℕ) : Type 0 where
   pub value : n ≡ digits_value 10 (without_leading_plus text)
   pub small : n < 2 ^ 64
 
--- a flag and its value change the options o to o'
-pub data Sets (o : Options) : (flag value : List ℕ) → Options → Type 0 where
-  records : {value : List ℕ} {n : ℕ} → IsNumber value n → Sets o (codes "--records") value (record { records = n; cut = o.cut })
-  cut : (c : Cut) → Sets o (codes "--cut") (cut_name c) (record { records = o.records; cut = c })
+-- as many records as the value of --records says, up to the cells of the largest tile
+abbrev pub RecordsAsked : ArgMatches → ℕ → Type 0
+RecordsAsked m records = (text : List ℕ) (n : ℕ) → one_text (found_of m) (codes "records") ≡ Some text → IsNumber text n → records ≡ min n (most_rows * most_columns)
 
--- What is asked for by these arguments, where o was asked for before: None where they are not understood.
-pub data IsAsked : Options → List (List ℕ) → Option Asked → Type 0 where
-  all : {o : Options} → IsAsked o [] (Some (Solution o))
-  help : {o : Options} {rest : List (List ℕ)} → IsAsked o (codes "--help" ∷ rest) (Some Help)
-  set : {o o' : Options} {flag value : List ℕ} {rest : List (List ℕ)} {r : Option Asked} → Sets o flag value o' → IsAsked o' rest r → IsAsked o (flag ∷ value ∷ rest) r
-  unknown : {o : Options} {flag value : List ℕ} {rest : List (List ℕ)} → flag ≢ codes "--help" → ((o' : Options) → Sets o flag value o' → ⊥) → IsAsked o (flag ∷ value ∷ rest) None
-  short : {o : Options} {flag : List ℕ} → flag ≢ codes "--help" → IsAsked o (flag ∷ []) None
+-- the maker that the value of --cut names
+abbrev pub CutAsked : ArgMatches → Cut → Type 0
+CutAsked m maker = (c : Cut) → first_value (found_of m) (codes "cut") ≡ Some (cut_name c) → maker ≡ c

@@ -1,5 +1,5 @@
 -- What is answered for the front of a file is the answer for the file.
-use Rattle.std.proofs.Common.{◌≡◌, ℕ, ◌+◌, ◌*◌, ◌<◌, min, List, [], ◌++◌, take, Bool, false, Option, Some, None, IfSome, string_bytes, subst}
+use Rattle.std.proofs.Common.{◌≡◌, ℕ, ◌+◌, ◌*◌, ◌<◌, min, List, [], ◌++◌, take, false, Option, Some, None, IfSome, string_bytes, subst}
 use Rattle.std.specs.Prelude.{option_map}
 use Rattle.tilefile.proofs.Bounded.{front_tells}
 use Rattle.report.specs.Answering.{Answers, Printed}

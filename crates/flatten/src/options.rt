@@ -1,8 +1,7 @@
 // What the arguments ask for.
-ghost use Rattle.std.specs.Prelude.{◌≡◌, ◌≤◌, ◌*◌, ◌&&◌, if◌then◌else◌, Some, true, false, codes, IfOk};
-ghost use Rattle.limits.specs.Limits.{most_rows, most_columns};
-ghost use Rattle.clap.specs.Words.{found_of, one_text};
-ghost use Rattle.flatten.specs.Options.{RecordsAsked, CutAsked};
+ghost use Rattle.std.specs.Prelude.{◌≡◌, ◌&&◌, if◌then◌else◌, false, map, codes, string_bytes, IfOk};
+ghost use Rattle.clap.specs.Words.{app_of, first_value, found_of, one_text, rule_of};
+ghost use Rattle.flatten.specs.Options.{Makers, records_rule, cut_rule, strict_rule, command, Asked, ParsedAs};
 
 use clap::{Arg, ArgAction, ArgMatches, Command, value_parser};
 use limits::{MAX_COLUMNS, MAX_ROWS};
@@ -38,44 +37,61 @@ pub struct Options {
     pub strict: bool,
 }
 
-// The arguments that there are.
-fn command_line<'a>(alloc: Global) -> Result<Command<'a>, AllocError> {
-    let records = Arg::new(alloc, "records")
+fn records_argument<'a>(alloc: Global) -> Arg<'a>
+    ensures rule { rule_of result ≡ records_rule }
+    ensures own { result.global ≡ false }
+{
+    Arg::new(alloc, "records")
         .long("records")
         .value_name("N")
         .value_parser(value_parser!(usize))
         .default_value("1024")
         .help(
             "How many records there are, and so the most cells that a tile may have; more than 4096 count as 4096",
-        );
-    let cut = Arg::new(alloc, "cut")
+        )
+}
+
+fn cut_argument<'a>(alloc: Global) -> Arg<'a>
+    ensures rule { (makers : Makers) × (rule_of result ≡ cut_rule makers) }
+    ensures own { result.global ≡ false }
+{
+    Arg::new(alloc, "cut")
         .long("cut")
         .value_name("MAKER")
         .value_parser(CUT_NAMES.as_slice())
         .default_value("push")
         .help(
             "How the cuts are made: along augmenting paths, or by push-relabel, which is faster; the heights are the same",
-        );
-    let strict = Arg::new(alloc, "strict")
+        )
+}
+
+fn strict_argument<'a>(alloc: Global) -> Arg<'a>
+    ensures rule { rule_of result ≡ strict_rule }
+    ensures own { result.global ≡ false }
+{
+    Arg::new(alloc, "strict")
         .long("strict")
         .action(ArgAction::SetTrue)
-        .help("Ends with status 3 where the file is refused");
-    Command::new(alloc, "flatten")
+        .help("Ends with status 3 where the file is refused")
+}
+
+// The arguments that there are.
+fn command_line<'a>(alloc: Global) -> Result<Command<'a>, AllocError>
+    ensures { IfOk result (λ line. (makers : Makers) × (app_of line ≡ command makers)) }
+{
+    let line = Command::new(alloc, "flatten")
         .about(ABOUT)
         .after_help(STATUSES)
-        .arg(records)?
-        .arg(cut)?
-        .arg(strict)
+        .arg(records_argument(alloc))?
+        .arg(cut_argument(alloc))?
+        .arg(strict_argument(alloc))?;
+    Ok(line)
 }
 
 impl Options {
     // What the values of the arguments come to.
     fn of(matches: &ArgMatches) -> Options
-        ensures records { RecordsAsked matches.now result.records }
-        ensures few { result.records ≤ most_rows * most_columns }
-        ensures cut { CutAsked matches.now result.cut }
-        ensures strict { one_text (found_of matches.now) (codes "strict") ≡ Some (codes "true") → result.strict ≡ true }
-        ensures lenient { one_text (found_of matches.now) (codes "strict") ≡ Some (codes "false") → result.strict ≡ false }
+        ensures { Asked (one_text (found_of matches.now) (codes "records")) (first_value (found_of matches.now) (codes "cut")) (one_text (found_of matches.now) (codes "strict")) result }
     {
         let records = matches.get_one::<usize>("records");
         Options {
@@ -91,9 +107,10 @@ impl Options {
     /// What the words of a command line ask for, of which the first is the program's name; or an error that says what is wrong with
     /// them, or the help that they ask for.
     pub fn parse(alloc: Global, words: &[String]) -> Result<Options, clap::Error>
-        ensures { IfOk result (λ options. options.records ≤ most_rows * most_columns) }
+        ensures { ParsedAs (map (λ word. string_bytes word) words.now) result }
     {
-        let matches = command_line(alloc)?.try_get_matches_from(words)?;
+        let line = command_line(alloc)?;
+        let matches = line.try_get_matches_from(words)?;
         Ok(Options::of(&matches))
     }
 

@@ -2,7 +2,7 @@ use Rattle.std.proofs.Common.{◌≡◌, List, ℕ, ◌++◌, take, IfSome, subs
 use Rattle.std.specs.Prelude.{option_map}
 use Rattle.flatten.proofs.Fronts.{front_read, answered}
 use Rattle.report.specs.Answering.{Answers}
-use Rattle.flatten.specs.Answering.{Refuses, Answered}
+use Rattle.flatten.specs.Answering.{Refuses}
 use Rattle.flatten.proofs.answering.Answer.to.Goals as goal
 
 pub returns : goal.returns

@@ -3,7 +3,7 @@ use Rattle.std.proofs.Common.{◌≡◌, ℕ, ◌<◌, ◌≤◌, Bool, true, �
 use Rattle.std.proofs.lemmas.Bool.{and_parts, or_cases, eqb-true, leb-true, ltb-true}
 use Rattle.theory.specs.Graphs.{Proper}
 use Rattle.theory.specs.Grids.{Problem, Heights, energy, Grid, LowestCheapestGrid}
-use Rattle.tile.specs.Rating.{height}
+use Rattle.cases.specs.Cases.{height}
 use Rattle.theory.proofs.Locals.{energy_same}
 use Rattle.theory.proofs.Every.{every, every_passes}
 use Rattle.cases.proofs.EveryGrid.{every_grid, every_grid_passes, listed, listed_at}

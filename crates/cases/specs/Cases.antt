@@ -1,13 +1,12 @@
 -- A worked tile: what was surveyed, and the lowest cheapest grid with its energy that are expected of it.
 use Rattle.std.specs.Prelude.{◌≡◌, ℕ, List, slice_index}
 use Rattle.price.specs.Rules.{Rule}
-use Rattle.theory.specs.Grids.{Problem, energy, LowestCheapestGrid}
+use Rattle.theory.specs.Grids.{Heights, Problem, energy, LowestCheapestGrid}
 use Rattle.tile.specs.declared.shape.Shape.{Shape}
 use Rattle.tile.specs.declared.side.Side.{Side}
 use Rattle.tile.specs.declared.side.Side.TheVariants.{Rightward, Downward}
 use Rattle.tile.specs.Ties.{Tie}
 use Rattle.tile.specs.Tiles.{Survey, problem}
-use Rattle.tile.specs.Rating.{height}
 
 -- the lists run over the cells in the order of their numbers; what a list does not reach is 0
 pub record Case : Type 0 where
@@ -35,6 +34,11 @@ surveyed c = record { reading = λ u. slice_index c.readings u; class = λ u. sl
 abbrev pub posed : Case → Problem Tie
 posed c = problem c.rule c.shape (surveyed c)
 
+-- the height of the cell u in a list of heights; 0 where there is none
+abbrev pub height : List ℕ → Heights
+height hs u = slice_index hs u
+
 -- the expected heights are the lowest cheapest grid, and the expected energy is theirs
-abbrev pub RightCase : Case → Type 0
-RightCase c = LowestCheapestGrid (posed c) (height c.heights) × (energy (posed c) (height c.heights) ≡ c.energy)
+pub record RightCase (c : Case) : Type 0 where
+  pub lowest_cheapest : LowestCheapestGrid (posed c) (height c.heights)
+  pub energy_of_it : energy (posed c) (height c.heights) ≡ c.energy

@@ -20,12 +20,6 @@ pub trait Entry: Copy {
     fn reached(cell: u16, back: Direction) -> Self
         ensures cell { spot result ≡ cell }
         ensures back { (h : Way) → came result ≡ Just h → h ≡ back };
-
-    fn cell(self) -> u16
-        ensures { result ≡ spot self };
-
-    fn came_from(self) -> Option<Direction>
-        ensures { result ≡ came self };
 }
 
 // A plain cell number.
@@ -40,14 +34,6 @@ impl Entry for u16 {
 
     fn reached(cell: u16, _back: Direction) -> u16 {
         cell
-    }
-
-    fn cell(self) -> u16 {
-        self
-    }
-
-    fn came_from(self) -> Option<Direction> {
-        None
     }
 }
 
@@ -76,13 +62,5 @@ impl Entry for Step {
             cell,
             side: Some(back),
         }
-    }
-
-    fn cell(self) -> u16 {
-        self.cell
-    }
-
-    fn came_from(self) -> Option<Direction> {
-        self.side
     }
 }

@@ -21,7 +21,7 @@ use Rattle.tile.specs.declared.side.Side.TheVariants.{Rightward, Downward}
 use Rattle.tile.specs.Records.{stored_tie, stored_flow, stored_bracket}
 use Rattle.tile.specs.Ties.{Tie}
 use Rattle.tile.specs.Shapes.{cells, Ranged}
-use Rattle.tile.specs.Tiles.{Tile, cell, blank, problem}
+use Rattle.tile.specs.Tiles.{Tile, cell, blank, problem, heights}
 use Rattle.flow.specs.Networks.{network, charges, flow_on, is_live}
 use Rattle.flow.specs.Sides.{uncut}
 use Rattle.flow.specs.Points.{FlowsFit, FourPoints}
@@ -31,7 +31,7 @@ use Rattle.filter.specs.declared.states.Draft.{Draft}
 use Rattle.filter.specs.declared.states.Rounding.{Rounding}
 use Rattle.filter.specs.declared.answers.Refused.{Refused}
 use Rattle.filter.specs.Checks.{Inside}
-use Rattle.filter.specs.Calls.{heights, LeavesAll, StartDoes, PutDoes, BeginDoes, RoundDoes, FinishDoes}
+use Rattle.filter.specs.Calls.{LeavesAll, StartDoes, PutDoes, BeginDoes, RoundDoes, FinishDoes}
 use Rattle.filter.specs.Runs.{History, surveyed, tied_at, finished, begun, rounded, reopened, put_at, put, begin, round, finish, draft, rounding, level, Run, started, then, Lent}
 use Rattle.filter.specs.Examples.{HistoriesAreRead, LendingIsRead, RunsCanBeMet, StartsAreRead, DraftCallsAreRead, RoundCallsAreRead, LevelCallsAreRead, one_cell, tall_cell, drafted, no_round_done, one_round_done, levelled, tall_rounding, put_in, ended, calls, given_back}
 use Rattle.filter.proofs.Keeps.{every_run}
@@ -92,7 +92,8 @@ pub lending : LendingIsRead
 unfolding high_of
 lending = record {
   a_longer_slice = Lent.all {t = fresh 1 ∷ blank ∷ []} {t' = fresh 2 ∷ blank ∷ []} (omega arith);
-  too_short_a_part = Lent.part (fresh 1 ∷ []) [] {t = []} {t' = []} (omega arith);
+  too_short_a_part = Lent.part {r = fresh 1 ∷ []} {t = []} {t' = []} (omega arith);
+  too_short_whatever_it_holds = Lent.part {r = fresh 1 ∷ fresh 1 ∷ []} {t = blank ∷ []} {t' = blank ∷ []} (omega arith);
   another_record = λ l. omega (arith, ap high_of (lent_whole (omega arith) l).0);
 }
 
@@ -258,14 +259,9 @@ unfolding energy number_in
 level_calls = record {
   height_of_the_cell = passed (omega arith) (passed (sound_at_1 (pos 0)) (passed (omega arith, omega arith) refl));
   column_outside = passed (omega arith) (passed (sound_at_1 (pos 0)) (refused (λ i. omega (arith, i.1)) refl refl));
-  heights_copied = passed (omega arith) (passed (omega arith) (passed (sound_at_1 (pos 0)) (refl, refl)));
-  no_place = refused (λ l. omega (arith, l)) refl (refl, refl);
   cost_of_the_reading = passed (omega arith) (passed (sound_at_1 (pos 0)) (passed (omega arith) refl));
   cost_of_no_more = λ k. omega (arith, ap number_in (surely (omega arith) (surely (sound_at_1 (pos 0)) (surely (omega arith) k))));
   reopened_tile = passed (omega arith) (passed (sound_at_1 (pos 0)) (record { draft = drafted; answers = refl; shape = refl; writes = refl }));
-  numbers_of_a_level = record { shape = ranged; few = omega arith; over = omega arith };
-  a_round_is_due = λ l. omega (arith, l.over);
-  eleven_rounds_are_too_many = λ r. omega (arith, r.few);
 }
 
 -- ---- whole runs
@@ -292,6 +288,9 @@ runs = record {
   not_from_1_to_0 = λ r. omega (arith, r.reading 0 (omega arith));
   top_in_reach_of_the_rule = omega arith;
   run_below_top = then begun_tall (Lent.all {t = fresh 2 ∷ []} {t' = fresh 2 ∷ []} (omega arith)) (round tall_rounding 1 (given_back tall_rounding Ceiling) ceiling);
+  no_run_below_top_is_finished = λ h x t run f.
+      let reach = (every_run (absolute 1) (absolute_lawful 1 (omega arith, omega arith)) tall_cell h x t run).finished_rule_reaches_top f in
+      omega (arith, reach);
   top_out_of_reach = omega arith;
 }
   where

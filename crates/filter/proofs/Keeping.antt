@@ -1,23 +1,26 @@
 -- What every run keeps, call by call.
-use Rattle.std.proofs.Common.{◌≡◌, ℕ, ◌+◌, ◌<◌, ◌≤◌, cond, eqb, [], ◌∷◌, length, set, sym, refl, ap, ◌∙◌, subst, inl, inr, add-one, arith}
+use Rattle.std.proofs.Common.{◌≡◌, ℕ, suc, ◌+◌, ◌<◌, ◌≤◌, cond, eqb, [], ◌∷◌, length, set, sym, refl, ap, ◌∙◌, subst, inl, inr, add-one, arith}
 use Rattle.std.proofs.lemmas.Bool.{cond_both, cases_lt, eqb-true, eqb-false}
 use Rattle.std.proofs.lemmas.List.{get_or-set_same, get_or-set_other, length-set}
 use Rattle.limits.specs.Limits.{most_class}
 use Rattle.price.specs.Rules.{Rule, Lawful}
 use Rattle.theory.specs.Grids.{Heights, LowestCheapestGrid}
+use Rattle.theory.proofs.Locals.{lowest_same}
 use Rattle.tile.specs.declared.bracket.Bracket.{Bracket}
 use Rattle.tile.specs.declared.cell.Cell.{Cell}
 use Rattle.tile.specs.declared.shape.Shape.{Shape}
 use Rattle.tile.specs.declared.side.Side.{Side}
 use Rattle.tile.specs.declared.side.Side.TheVariants.{Rightward, Downward}
-use Rattle.tile.specs.Halving.{from_to, half_toward, halving, RoundsOver}
+use Rattle.tile.specs.Halving.{from_to, half_toward, halving, Holds, RoundsOver}
 use Rattle.tile.specs.Records.{stored_tie, stored_bracket, recharged}
 use Rattle.tile.specs.Shapes.{cells}
-use Rattle.tile.specs.Tiles.{Tile, cell, blank, problem}
+use Rattle.tile.specs.Tiles.{Tile, Survey, cell, blank, survey, problem, heights}
+use Rattle.tile.proofs.Halves.{halving_holds, halving_over, halving_alike}
+use Rattle.tile.proofs.Joins.{ties_join_cells}
 use Rattle.flow.specs.Points.{FourPoints}
 use Rattle.flow.specs.Sides.{uncut}
 use Rattle.passes.specs.Writing.{with_reading, with_ties, with_bracket, fresh, reset, rewritten}
-use Rattle.passes.specs.Soundness.{SoundReading, SoundTie, SoundTies, SoundSurvey}
+use Rattle.passes.specs.Soundness.{SoundReading, SoundTie, SoundTies, SoundSurvey, Sound}
 use Rattle.passes.specs.Rounds.{charge_in, charged, half_marked, narrowed}
 use Rattle.passes.proofs.Rewrites.{cell_rewritten, rewritten_length}
 use Rattle.filter.specs.declared.states.Draft.{Draft}
@@ -28,31 +31,37 @@ use Rattle.filter.specs.Laws.{Recorded}
 use Rattle.filter.proofs.Grids.{exists}
 use Rattle.filter.proofs.Narrowing.{Halved, cut_kept, narrowed_kept, narrows}
 
--- The records hold the survey of the history, and every bracket is the halving, for the rounds done, that holds the height of the
--- lowest cheapest grid.
+-- The records hold the survey y, and every bracket is the halving, for the rounds done, that holds the height of the lowest
+-- cheapest grid.
+pub record Held (rule : Rule) (s : Shape) (y : Survey) (done : ℕ) (t : Tile) : Type 0 where
+  pub long : cells s ≤ length t
+  pub recorded : Recorded s y t
+  pub sound : SoundSurvey s y
+  -- without a rule that reaches top no round is done
+  pub idle : rule.greatest < s.top → done ≡ 0
+  pub halved : (g : Heights) → (s.top ≤ rule.greatest → LowestCheapestGrid (problem rule s y) g) → Halved s t done g
+
+-- the same of a run's state and records, for the survey of its history
 pub record Inv (rule : Rule) (s : Shape) (h : History) (x : State) (t : Tile) : Type 0 where
   pub shaped : shape_of x ≡ s
-  pub long : cells s ≤ length t
-  pub recorded : Recorded s (surveyed h) t
-  pub sound : SoundSurvey s (surveyed h)
-  -- without a rule that reaches top no round is done
-  pub idle : rule.greatest < s.top → done_of x ≡ 0
-  pub halved : (g : Heights) → (s.top ≤ rule.greatest → LowestCheapestGrid (problem rule s (surveyed h)) g) → Halved s t (done_of x) g
+  pub held : Held rule s (surveyed h) (done_of x) t
   pub ended : (k : History) → h ≡ finished ∷ k → RoundsOver s.top (done_of x)
 
 -- it looks at the records of cells alone
 pub on_slice : {rule : Rule} {s : Shape} {h : History} {x : State} (t t' : Tile) → cells s ≤ length t' → ((u : ℕ) → u < cells s → cell t' u ≡ cell t u) → Inv rule s h x t → Inv rule s h x t'
 on_slice t t' long same inv = record {
   shaped = inv.shaped;
-  long = long;
-  recorded = record {
-    reading = λ u l. ap (λ (c : Cell). c.reading) (same u l) ∙ inv.recorded.reading u l;
-    class = λ u l. ap (λ (c : Cell). c.class) (same u l) ∙ inv.recorded.class u l;
-    tie = λ u d l. ap (λ (c : Cell). stored_tie c d) (same u l) ∙ inv.recorded.tie u d l;
+  held = record {
+    long = long;
+    recorded = record {
+      reading = λ u l. ap (λ (c : Cell). c.reading) (same u l) ∙ inv.held.recorded.reading u l;
+      class = λ u l. ap (λ (c : Cell). c.class) (same u l) ∙ inv.held.recorded.class u l;
+      tie = λ u d l. ap (λ (c : Cell). stored_tie c d) (same u l) ∙ inv.held.recorded.tie u d l;
+    };
+    sound = inv.held.sound;
+    idle = inv.held.idle;
+    halved = λ g low u l. ap stored_bracket (same u l) ∙ inv.held.halved g low u l;
   };
-  sound = inv.sound;
-  idle = inv.idle;
-  halved = λ g low u l. ap stored_bracket (same u l) ∙ inv.halved g low u l;
   ended = inv.ended;
 }
 
@@ -102,19 +111,19 @@ not_finish a h k other e = let p : a ≡ finished = cc in let z : is_finish a �
 
 module _ (rule : Rule) (law : Lawful rule) where
   -- a lowest cheapest grid, where there is one to speak of
-  pub some_grid : {s : Shape} {h : History} {x : State} {t : Tile} → Inv rule s h x t →
-      (g : Heights) × (s.top ≤ rule.greatest → LowestCheapestGrid (problem rule s (surveyed h)) g) × ((u : ℕ) → u < cells s → g u ≤ s.top)
-  some_grid {s} {h} inv =
+  pub some_grid : {s : Shape} {y : Survey} {n : ℕ} {t : Tile} → Held rule s y n t →
+      (g : Heights) × (s.top ≤ rule.greatest → LowestCheapestGrid (problem rule s y) g) × ((u : ℕ) → u < cells s → g u ≤ s.top)
+  some_grid {s} {y} held =
       elim (cases_lt rule.greatest s.top) [
         | inl lt ↦ (λ u. 0, λ le. absurd (omega arith), λ u _. omega arith)
-        | inr le ↦ let e = exists rule law s le (surveyed h) inv.sound in (e.0, λ _. e.1, λ u l. e.1.least.grid u l)
+        | inr le ↦ let e = exists rule law s le y held.sound in (e.0, λ _. e.1, λ u l. e.1.least.grid u l)
       ]
 
   -- before the first round every bracket is 0..top
-  pub drafted : (s : Shape) (h : History) (x : State) (t : Tile) → Inv rule s h x t → done_of x ≡ 0 → (u : ℕ) → u < cells s → stored_bracket (cell t u) ≡ from_to 0 s.top
-  drafted s h x t inv none u l =
-      let g = some_grid inv in
-      inv.halved g.0 g.1 u l ∙ ap (λ n. halving n s.top (g.0 u)) none
+  pub drafted : (s : Shape) (y : Survey) (n : ℕ) (t : Tile) → Held rule s y n t → n ≡ 0 → (u : ℕ) → u < cells s → stored_bracket (cell t u) ≡ from_to 0 s.top
+  drafted s y n t held none u l =
+      let g = some_grid held in
+      held.halved g.0 g.1 u l ∙ ap (λ n. halving n s.top (g.0 u)) none
 
   pub start_inv : (s : Shape) (d : Draft) (t : Tile) → d.shape ≡ s → cells s ≤ length t → Inv rule s [] (draft d) (rewritten (cells s) (λ _. fresh s.top) t)
   start_inv s d t es whole =
@@ -122,18 +131,20 @@ module _ (rule : Rule) (law : Lawful rule) where
       let is : (u : ℕ) → u < cells s → cell (rewritten (cells s) f t) u ≡ f u = λ u l. cell_rewritten (cells s) f t u l in
       record {
         shaped = es;
-        long = omega (arith, rewritten_length f t (cells s) whole);
-        recorded = record {
-          reading = λ u l. ap (λ (c : Cell). c.reading) (is u l);
-          class = λ u l. ap (λ (c : Cell). c.class) (is u l);
-          tie = λ u d l. ap (λ (c : Cell). stored_tie c d) (is u l) ∙ no_ties s.top d;
+        held = record {
+          long = omega (arith, rewritten_length f t (cells s) whole);
+          recorded = record {
+            reading = λ u l. ap (λ (c : Cell). c.reading) (is u l);
+            class = λ u l. ap (λ (c : Cell). c.class) (is u l);
+            tie = λ u d l. ap (λ (c : Cell). stored_tie c d) (is u l) ∙ no_ties s.top d;
+          };
+          sound = record {
+            readings = λ u l. record { reading = omega arith; class = omega arith };
+            ties = λ u l d. record { few = omega arith; edge = λ _. refl };
+          };
+          idle = λ _. refl;
+          halved = λ g _ u l. ap stored_bracket (is u l);
         };
-        sound = record {
-          readings = λ u l. record { reading = omega arith; class = omega arith };
-          ties = λ u l d. record { few = omega arith; edge = λ _. refl };
-        };
-        idle = λ _. refl;
-        halved = λ g _ u l. ap stored_bracket (is u l);
         ended = λ k e. let z : ◌≡◌ {A = ℕ} 0 1 = cc in absurd (omega arith);
       }
 
@@ -141,24 +152,26 @@ module _ (rule : Rule) (law : Lawful rule) where
       Inv rule d.shape h (draft d) t → Inv rule d.shape (put_at p v q ∷ h) (draft d) (set t p (with_reading v q (cell t p)))
   put_inv h d t p v q lp ok inv =
       let c : Cell = with_reading v q (cell t p) in
-      let l : p < length t = omega (arith, inv.long) in
+      let l : p < length t = omega (arith, inv.held.long) in
       record {
         shaped = refl;
-        long = simp length-set inv.long;
-        recorded = record {
-          reading = λ u lt. written (λ (z : Cell). z.reading) t p c u l ∙ ap (cond (eqb p u) v) (inv.recorded.reading u lt);
-          class = λ u lt. written (λ (z : Cell). z.class) t p c u l ∙ ap (cond (eqb p u) q) (inv.recorded.class u lt);
-          tie = λ u e lt. unwritten (λ (z : Cell). stored_tie z e) t p c u l (ties_same c (cell t p) refl refl e) ∙ inv.recorded.tie u e lt;
-        };
-        sound = record {
-          readings = λ u lt. record {
-            reading = cond_both (eqb p u) v ((surveyed h).reading u) (λ x. x ≤ d.shape.top) (λ _. ok.reading) (λ _. (inv.sound.readings u lt).reading);
-            class = cond_both (eqb p u) q ((surveyed h).class u) (λ x. x ≤ most_class) (λ _. ok.class) (λ _. (inv.sound.readings u lt).class);
+        held = record {
+          long = simp length-set inv.held.long;
+          recorded = record {
+            reading = λ u lt. written (λ (z : Cell). z.reading) t p c u l ∙ ap (cond (eqb p u) v) (inv.held.recorded.reading u lt);
+            class = λ u lt. written (λ (z : Cell). z.class) t p c u l ∙ ap (cond (eqb p u) q) (inv.held.recorded.class u lt);
+            tie = λ u e lt. unwritten (λ (z : Cell). stored_tie z e) t p c u l (ties_same c (cell t p) refl refl e) ∙ inv.held.recorded.tie u e lt;
           };
-          ties = inv.sound.ties;
+          sound = record {
+            readings = λ u lt. record {
+              reading = cond_both (eqb p u) v ((surveyed h).reading u) (λ x. x ≤ d.shape.top) (λ _. ok.reading) (λ _. (inv.held.sound.readings u lt).reading);
+              class = cond_both (eqb p u) q ((surveyed h).class u) (λ x. x ≤ most_class) (λ _. ok.class) (λ _. (inv.held.sound.readings u lt).class);
+            };
+            ties = inv.held.sound.ties;
+          };
+          idle = λ _. refl;
+          halved = λ g _ u lt. unwritten stored_bracket t p c u l refl ∙ drafted d.shape (surveyed h) 0 t inv.held refl u lt;
         };
-        idle = λ _. refl;
-        halved = λ g _ u lt. unwritten stored_bracket t p c u l refl ∙ drafted d.shape h (draft d) t inv refl u lt;
         ended = λ k e. not_finish (put_at p v q) h k refl e;
       }
 
@@ -166,73 +179,72 @@ module _ (rule : Rule) (law : Lawful rule) where
       Inv rule d.shape h (draft d) t → Inv rule d.shape (tied_at p w ∷ h) (draft d) (set t p (with_ties w (cell t p)))
   tie_inv h d t p w lp ok inv =
       let c : Cell = with_ties w (cell t p) in
-      let l : p < length t = omega (arith, inv.long) in
+      let l : p < length t = omega (arith, inv.held.long) in
       record {
         shaped = refl;
-        long = simp length-set inv.long;
-        recorded = record {
-          reading = λ u lt. unwritten (λ (z : Cell). z.reading) t p c u l refl ∙ inv.recorded.reading u lt;
-          class = λ u lt. unwritten (λ (z : Cell). z.class) t p c u l refl ∙ inv.recorded.class u lt;
-          tie = λ u e lt.
-              written (λ (z : Cell). stored_tie z e) t p c u l ∙ ap (λ z. cond (eqb p u) z (stored_tie (cell t u) e)) (now_tied (cell t p) w e)
-              ∙ ap (cond (eqb p u) (w e)) (inv.recorded.tie u e lt);
+        held = record {
+          long = simp length-set inv.held.long;
+          recorded = record {
+            reading = λ u lt. unwritten (λ (z : Cell). z.reading) t p c u l refl ∙ inv.held.recorded.reading u lt;
+            class = λ u lt. unwritten (λ (z : Cell). z.class) t p c u l refl ∙ inv.held.recorded.class u lt;
+            tie = λ u e lt.
+                written (λ (z : Cell). stored_tie z e) t p c u l ∙ ap (λ z. cond (eqb p u) z (stored_tie (cell t u) e)) (now_tied (cell t p) w e)
+                ∙ ap (cond (eqb p u) (w e)) (inv.held.recorded.tie u e lt);
+          };
+          sound = record {
+            readings = inv.held.sound.readings;
+            ties = λ u lt e.
+                cond_both (eqb p u) (w e) ((surveyed h).tie u e) (SoundTie d.shape u e) (λ same. subst (λ (n : ℕ). SoundTie d.shape n e (w e)) (eqb-true p u same) (ok e)) (λ _. inv.held.sound.ties u lt e);
+          };
+          idle = λ _. refl;
+          halved = λ g _ u lt. unwritten stored_bracket t p c u l refl ∙ drafted d.shape (surveyed h) 0 t inv.held refl u lt;
         };
-        sound = record {
-          readings = inv.sound.readings;
-          ties = λ u lt e.
-              cond_both (eqb p u) (w e) ((surveyed h).tie u e) (SoundTie d.shape u e) (λ same. subst (λ (n : ℕ). SoundTie d.shape n e (w e)) (eqb-true p u same) (ok e)) (λ _. inv.sound.ties u lt e);
-        };
-        idle = λ _. refl;
-        halved = λ g _ u lt. unwritten stored_bracket t p c u l refl ∙ drafted d.shape h (draft d) t inv refl u lt;
         ended = λ k e. not_finish (tied_at p w) h k refl e;
       }
 
   pub begin_inv : (h : History) (d : Draft) (r : Rounding) (t : Tile) → r.shape ≡ d.shape → r.done ≡ 0 → Inv rule d.shape h (draft d) t → Inv rule d.shape (begun ∷ h) (rounding r) t
   begin_inv h d r t es ed inv = record {
     shaped = es;
-    long = inv.long;
-    recorded = inv.recorded;
-    sound = inv.sound;
-    idle = λ _. ed;
-    halved = λ g _ u l. drafted d.shape h (draft d) t inv refl u l ∙ ap (λ n. halving n d.shape.top (g u)) (sym ed);
+    held = subst (λ (n : ℕ). Held rule d.shape (surveyed h) n t) (sym ed) inv.held;
     ended = λ k e. not_finish begun h k refl e;
   }
 
-  pub round_inv : (h : History) (r r' : Rounding) (t cut : Tile) → r'.shape ≡ r.shape → r'.done ≡ r.done + 1 → r.shape.top ≤ rule.greatest →
-      FourPoints r.shape (charged rule r.shape t) cut → Inv rule r.shape h (rounding r) t → Inv rule r.shape (rounded ∷ h) (rounding r') (narrowed r.shape cut)
-  round_inv h r r' t cut es ed le four inv =
-      let s : Shape = r.shape in
+  -- one round more, whatever led to the records
+  pub round_held : (s : Shape) (y : Survey) (n : ℕ) (t cut : Tile) → s.top ≤ rule.greatest → FourPoints s (charged rule s t) cut → Held rule s y n t → Held rule s y (suc n) (narrowed s cut)
+  round_held s y n t cut le four held =
       let f : ℕ → Cell = λ u. recharged (charge_in rule s t u) (cell t u) in
       let k : ℕ → Cell = λ u. with_bracket (half_marked (cell cut u)) (cell cut u) in
-      let long_cut : cells s ≤ length cut = omega (arith, four.long, rewritten_length f t (cells s) inv.long, inv.long) in
+      let long_cut : cells s ≤ length cut = omega (arith, four.long, rewritten_length f t (cells s) held.long, held.long) in
       record {
-        shaped = es;
         long = omega (arith, rewritten_length k cut (cells s) long_cut);
         recorded = record {
-          reading = λ u l. narrowed_kept s cut (λ (c : Cell). c.reading) (λ b c. refl) u ∙ cut_kept rule s t cut four (λ (c : Cell). c.reading) (λ c. refl) (λ z c. refl) u l ∙ inv.recorded.reading u l;
-          class = λ u l. narrowed_kept s cut (λ (c : Cell). c.class) (λ b c. refl) u ∙ cut_kept rule s t cut four (λ (c : Cell). c.class) (λ c. refl) (λ z c. refl) u l ∙ inv.recorded.class u l;
+          reading = λ u l. narrowed_kept s cut (λ (c : Cell). c.reading) (λ b c. refl) u ∙ cut_kept rule s t cut four (λ (c : Cell). c.reading) (λ c. refl) (λ z c. refl) u l ∙ held.recorded.reading u l;
+          class = λ u l. narrowed_kept s cut (λ (c : Cell). c.class) (λ b c. refl) u ∙ cut_kept rule s t cut four (λ (c : Cell). c.class) (λ c. refl) (λ z c. refl) u l ∙ held.recorded.class u l;
           tie = λ u d l.
               narrowed_kept s cut (λ (c : Cell). stored_tie c d) (λ b c. ties_same (with_bracket b c) c refl refl d) u
-              ∙ cut_kept rule s t cut four (λ (c : Cell). stored_tie c d) (λ c. ties_same (uncut c) c refl refl d) (λ z c. ties_same (recharged z c) c refl refl d) u l ∙ inv.recorded.tie u d l;
+              ∙ cut_kept rule s t cut four (λ (c : Cell). stored_tie c d) (λ c. ties_same (uncut c) c refl refl d) (λ z c. ties_same (recharged z c) c refl refl d) u l ∙ held.recorded.tie u d l;
         };
-        sound = inv.sound;
+        sound = held.sound;
         idle = λ lt. absurd (omega arith);
         halved = λ g low u l.
             ap stored_bracket (cell_rewritten (cells s) k cut u l)
-            ∙ narrows rule law s le (surveyed h) inv.sound g (low le) r.done t inv.recorded (inv.halved g low) cut four u l
-            ∙ ap (λ (b : Bracket). half_toward b (g u)) (inv.halved g low u l) ∙ ap (λ n. halving n s.top (g u)) (sym (ed ∙ add-one r.done));
-        ended = λ o e. not_finish rounded h o refl e;
+            ∙ narrows rule law s le y held.sound g (low le) n t held.recorded (held.halved g low) cut four u l
+            ∙ ap (λ (b : Bracket). half_toward b (g u)) (held.halved g low u l);
       }
+
+  pub round_inv : (h : History) (r r' : Rounding) (t cut : Tile) → r'.shape ≡ r.shape → r'.done ≡ r.done + 1 → r.shape.top ≤ rule.greatest →
+      FourPoints r.shape (charged rule r.shape t) cut → Inv rule r.shape h (rounding r) t → Inv rule r.shape (rounded ∷ h) (rounding r') (narrowed r.shape cut)
+  round_inv h r r' t cut es ed le four inv = record {
+    shaped = es;
+    held = subst (λ (n : ℕ). Held rule r.shape (surveyed h) n (narrowed r.shape cut)) (sym (ed ∙ add-one r.done)) (round_held r.shape (surveyed h) r.done t cut le four inv.held);
+    ended = λ o e. not_finish rounded h o refl e;
+  }
 
   pub finish_inv : (h : History) (r : Rounding) (l : Level) (t : Tile) → l.shape ≡ r.shape → l.done ≡ r.done → RoundsOver r.shape.top r.done →
       Inv rule r.shape h (rounding r) t → Inv rule r.shape (finished ∷ h) (level l) t
   finish_inv h r l t es ed over inv = record {
     shaped = es;
-    long = inv.long;
-    recorded = inv.recorded;
-    sound = inv.sound;
-    idle = λ lt. ed ∙ inv.idle lt;
-    halved = λ g low u k. inv.halved g low u k ∙ ap (λ n. halving n r.shape.top (g u)) (sym ed);
+    held = subst (λ (n : ℕ). Held rule r.shape (surveyed h) n t) (sym ed) inv.held;
     ended = λ k e. subst (RoundsOver r.shape.top) (sym ed) over;
   }
 
@@ -243,14 +255,57 @@ module _ (rule : Rule) (law : Lawful rule) where
       let is : (u : ℕ) → u < cells s → cell (rewritten (cells s) f t) u ≡ f u = λ u l. cell_rewritten (cells s) f t u l in
       record {
         shaped = es;
-        long = omega (arith, rewritten_length f t (cells s) inv.long, inv.long);
-        recorded = record {
-          reading = λ u l. ap (λ (c : Cell). c.reading) (is u l) ∙ inv.recorded.reading u l;
-          class = λ u l. ap (λ (c : Cell). c.class) (is u l) ∙ inv.recorded.class u l;
-          tie = λ u e l. ap (λ (c : Cell). stored_tie c e) (is u l) ∙ ties_same (f u) (cell t u) refl refl e ∙ inv.recorded.tie u e l;
+        held = record {
+          long = omega (arith, rewritten_length f t (cells s) inv.held.long, inv.held.long);
+          recorded = record {
+            reading = λ u l. ap (λ (c : Cell). c.reading) (is u l) ∙ inv.held.recorded.reading u l;
+            class = λ u l. ap (λ (c : Cell). c.class) (is u l) ∙ inv.held.recorded.class u l;
+            tie = λ u e l. ap (λ (c : Cell). stored_tie c e) (is u l) ∙ ties_same (f u) (cell t u) refl refl e ∙ inv.held.recorded.tie u e l;
+          };
+          sound = inv.held.sound;
+          idle = λ _. refl;
+          halved = λ g _ u l. ap stored_bracket (is u l);
         };
-        sound = inv.sound;
-        idle = λ _. refl;
-        halved = λ g _ u l. ap stored_bracket (is u l);
         ended = λ k e. not_finish reopened h k refl e;
+      }
+
+  -- ---- what is held
+
+  -- sound records of a draft hold their own survey
+  pub draft_held : (s : Shape) (t : Tile) → cells s ≤ length t → Sound s 0 t → Held rule s (survey t) 0 t
+  draft_held s t whole sound = record {
+    long = whole;
+    recorded = record { reading = λ u l. refl; class = λ u l. refl; tie = λ u d l. refl };
+    sound = record { readings = λ u l. (sound u l).reading; ties = λ u l. (sound u l).ties };
+    idle = λ _. refl;
+    halved = λ g _ u l. (sound u l).bracket.halved;
+  }
+
+  -- once the rounds are over each low end is the height in the lowest cheapest grid
+  pub ends_at : {s : Shape} {y : Survey} {n : ℕ} {t : Tile} → s.top ≤ rule.greatest → RoundsOver s.top n → Held rule s y n t →
+      (g : Heights) × LowestCheapestGrid (problem rule s y) g × ((u : ℕ) → u < cells s → stored_bracket (cell t u) ≡ from_to (g u) (g u))
+  ends_at {s} {y} {n} {t} le over held =
+      let g = exists rule law s le y held.sound in
+      (g.0, g.1, λ u l. held.halved g.0 (λ _. g.1) u l ∙ halving_over n s.top (g.0 u) (g.1.least.grid u l) over)
+
+  pub lowest_held : {s : Shape} {y : Survey} {n : ℕ} {t : Tile} → s.top ≤ rule.greatest → RoundsOver s.top n → Held rule s y n t → LowestCheapestGrid (problem rule s y) (heights t)
+  lowest_held {s} {y} {n} {t} le over held =
+      let e = ends_at le over held in
+      lowest_same (problem rule s y) e.0 (heights t) (ties_join_cells s y.tie) (λ u l. sym (ap (λ (b : Bracket). b.low) (e.2 u l))) e.1
+
+  -- every record is sound
+  pub stays_sound : {s : Shape} {y : Survey} {n : ℕ} {t : Tile} → Held rule s y n t → Sound s n t
+  stays_sound {s} {y} {n} {t} held u l =
+      let g = some_grid held in
+      let b : stored_bracket (cell t u) ≡ halving n s.top (g.0 u) = held.halved g.0 g.1 u l in
+      let w : Holds (halving n s.top (g.0 u)) (g.0 u) = halving_holds n s.top (g.0 u) (g.2 u l) in
+      let low : (cell t u).low ≡ (halving n s.top (g.0 u)).low = ap (λ (z : Bracket). z.low) b in
+      record {
+        reading = subst (λ (v : ℕ). SoundReading s.top v (cell t u).class) (sym (held.recorded.reading u l))
+            (subst (λ (q : ℕ). SoundReading s.top (y.reading u) q) (sym (held.recorded.class u l)) (held.sound.readings u l));
+        ties = λ d. subst (SoundTie s u d) (sym (held.recorded.tie u d l)) (held.sound.ties u l d);
+        bracket = record {
+          height = omega (arith, g.2 u l);
+          halved = b ∙ sym (halving_alike n s.top (g.0 u) (cell t u).low (g.2 u l) (omega arith, omega arith));
+        };
       }

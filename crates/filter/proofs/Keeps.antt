@@ -1,5 +1,5 @@
 -- Every run keeps the law: induction over the run.
-use Rattle.std.proofs.Common.{◌≡◌, ℕ, ◌+◌, ◌^◌, ◌<◌, ◌≤◌, [], ◌∷◌, ◌++◌, length, take, Ok, Err, Result, sym, refl, ap, ◌∙◌, subst, inl, inr, arith}
+use Rattle.std.proofs.Common.{◌≡◌, ℕ, ◌+◌, ◌^◌, ◌<◌, ◌≤◌, [], ◌∷◌, ◌++◌, length, take, Ok, Err, Result, sym, refl, subst, inl, inr, arith}
 use native.Mathlib.Bridge.{le_prop}
 use Rattle.std.proofs.lemmas.Nat.{mul-add-lt}
 use Rattle.std.proofs.lemmas.List.{get_or-take, length-take-le}
@@ -8,25 +8,20 @@ use Rattle.limits.specs.Limits.{most_strip_rows, most_columns, most_top}
 use Rattle.limits.specs.declared.refusal.Refusal.{Refusal}
 use Rattle.limits.proofs.Outcomes.{either}
 use Rattle.price.specs.Rules.{Rule, Lawful}
-use Rattle.theory.specs.Grids.{Heights, LowestCheapestGrid}
-use Rattle.theory.proofs.Locals.{lowest_same}
 use Rattle.tile.specs.declared.bracket.Bracket.{Bracket}
 use Rattle.tile.specs.declared.shape.Shape.{Shape}
-use Rattle.tile.specs.Halving.{halving, Holds}
-use Rattle.tile.specs.Records.{stored_bracket}
+use Rattle.tile.specs.Halving.{Holds}
 use Rattle.tile.specs.Shapes.{cells}
-use Rattle.tile.specs.Tiles.{Tile, cell, blank, problem}
-use Rattle.tile.proofs.Halves.{halving_holds, halving_over, halving_alike}
-use Rattle.tile.proofs.Joins.{ties_join_cells}
-use Rattle.passes.specs.Soundness.{SoundReading, SoundTie, Sound}
+use Rattle.tile.specs.Tiles.{Tile, cell, blank, heights}
+use Rattle.tile.proofs.Halves.{halving_holds}
 use Rattle.filter.specs.declared.answers.Refused.{Refused}
 use Rattle.filter.specs.Checks.{Inside, place}
-use Rattle.filter.specs.Calls.{GivesBack, LeavesAll, heights}
+use Rattle.filter.specs.Calls.{GivesBack, LeavesAll}
 use Rattle.filter.specs.Runs.{Accepted, put_at, tied_at, begun, rounded, finished, reopened, History, surveyed, State, draft, rounding, level, shape_of, done_of, added, next, Call, Lent, Run}
 use Rattle.filter.specs.Laws.{SameShape, EveryRunKeepsTheLaw}
 use Rattle.filter.proofs.Grids.{exists, compare}
 use Rattle.filter.proofs.Outcomes.{Unchanged, back_again, all_again, short_call}
-use Rattle.filter.proofs.Keeping.{Inv, on_slice, some_grid, drafted, start_inv, put_inv, tie_inv, begin_inv, round_inv, finish_inv, reopen_inv}
+use Rattle.filter.proofs.Keeping.{Inv, on_slice, drafted, start_inv, put_inv, tie_inv, begin_inv, round_inv, finish_inv, reopen_inv, lowest_held, stays_sound}
 
 -- the place of a row and a column of the shape is a cell
 pub place_inside : (s : Shape) (row column : ℕ) → Inside s row column → place s row column < cells s
@@ -82,17 +77,17 @@ module _ (rule : Rule) (law : Lawful rule) where
       let slice : Inv rule s h x t = on_slice (take (cells s) t) t whole (λ u l. sym (front_cell (cells s) t u l)) inv in
       let after : Inv rule s (new ++ h) x' t' =
       subst (λ z. Inv rule z (new ++ h) x' t') inv.shaped (step_here h (subst (λ z. Inv rule z h x t) (sym inv.shaped) slice) call) in
-      on_slice t' (take (cells s) t') (omega (arith, length-take-le (cells s) t' after.long)) (front_cell (cells s) t') after
-  step {s} {h} {new} {x} {x'} inv (Lent.part front back {t} {t'} lt) call =
+      on_slice t' (take (cells s) t') (omega (arith, length-take-le (cells s) t' after.held.long)) (front_cell (cells s) t') after
+  step {s} inv (Lent.part {r} {t} lt) call =
       let u = short_call (subst (λ z. length t < cells z) (sym inv.shaped) lt) call in
-      keep (record { state = u.state; tile = ap (λ z. front ++ (z ++ back)) u.tile; none = u.none }) inv
+      keep (record { state = u.state; tile = refl; none = u.none }) inv
 
   invariant : {s : Shape} {h : History} {x : State} {t : Tile} → Run rule s h x t → Inv rule s h x t
   invariant {s} (Run.started {t} {t'} d es w) =
       let nothing = λ (e : Refusal) (z : (Ok d ≡ Err e) × (t' ≡ t)). (let n : ◌≡◌ {A = ℕ} 0 1 = cc z.0 in absurd (omega arith)) in
       either nothing (λ _. either nothing (λ whole a.
       let here : Inv rule s [] (draft d) t' = subst (λ z. Inv rule s [] (draft d) z) (sym a.writes) (start_inv rule law s d t es whole) in
-      on_slice t' (take (cells s) t') (omega (arith, length-take-le (cells s) t' here.long)) (front_cell (cells s) t') here)) w
+      on_slice t' (take (cells s) t') (omega (arith, length-take-le (cells s) t' here.held.long)) (front_cell (cells s) t') here)) w
   invariant (Run.then run lent call) = step (invariant run) lent call
 
   -- where finish was the last call accepted the rule reaches top, since a round was done
@@ -100,40 +95,10 @@ module _ (rule : Rule) (law : Lawful rule) where
   reaches {s} {h} {k} {x} inv e =
       elim (cases_lt rule.greatest s.top) [
         | inl lt ↦
-            let few : s.top + 1 ≤ 2 ^ 0 = subst (λ (n : ℕ). s.top + 1 ≤ 2 ^ n) (inv.idle lt) (inv.ended k e) in
+            let few : s.top + 1 ≤ 2 ^ 0 = subst (λ (n : ℕ). s.top + 1 ≤ 2 ^ n) (inv.held.idle lt) (inv.ended k e) in
             absurd (omega (arith, s.high.0))
         | inr le ↦ le
       ]
-
-  -- at the end of a finished run each low end is the height in the lowest cheapest grid
-  ends_at : {s : Shape} {h k : History} {x : State} {t : Tile} → Inv rule s h x t → h ≡ finished ∷ k →
-      (g : Heights) × LowestCheapestGrid (problem rule s (surveyed h)) g × ((u : ℕ) → u < cells s → g u ≡ heights t u)
-  ends_at {s} {h} {k} {x} {t} inv e =
-      let le : s.top ≤ rule.greatest = reaches inv e in
-      let g = exists rule law s le (surveyed h) inv.sound in (
-        g.0,
-        g.1,
-        λ u l.
-            sym (ap (λ (b : Bracket). b.low) (inv.halved g.0 (λ _. g.1) u l ∙ halving_over (done_of x) s.top (g.0 u) (g.1.least.grid u l) (inv.ended k e))),
-      )
-
-  -- every record is sound
-  stays_sound : {s : Shape} {h : History} {x : State} {t : Tile} → Inv rule s h x t → Sound s (done_of x) t
-  stays_sound {s} {h} {x} {t} inv u l =
-      let g = some_grid rule law inv in
-      let r : ℕ = done_of x in
-      let b : stored_bracket (cell t u) ≡ halving r s.top (g.0 u) = inv.halved g.0 g.1 u l in
-      let w : Holds (halving r s.top (g.0 u)) (g.0 u) = halving_holds r s.top (g.0 u) (g.2 u l) in
-      let low : (cell t u).low ≡ (halving r s.top (g.0 u)).low = ap (λ (z : Bracket). z.low) b in
-      record {
-        reading = subst (λ (v : ℕ). SoundReading s.top v (cell t u).class) (sym (inv.recorded.reading u l))
-            (subst (λ (q : ℕ). SoundReading s.top ((surveyed h).reading u) q) (sym (inv.recorded.class u l)) (inv.sound.readings u l));
-        ties = λ d. subst (SoundTie s u d) (sym (inv.recorded.tie u d l)) (inv.sound.ties u l d);
-        bracket = record {
-          height = omega (arith, g.2 u l);
-          halved = b ∙ sym (halving_alike r s.top (g.0 u) (cell t u).low (g.2 u l) (omega arith, omega arith));
-        };
-      }
 
 -- ---- shapes with the same numbers are the same
 
@@ -167,20 +132,18 @@ pub every_run : EveryRunKeepsTheLaw
 every_run rule law s h x t run =
     let inv : Inv rule s h x t = invariant rule law run in
     record {
-      finished_grid_is_lowest_cheapest = λ f.
-          let e = ends_at rule law inv f.1 in
-          lowest_same (problem rule s (surveyed h)) e.0 (heights t) (ties_join_cells s (surveyed h).tie) e.2 e.1;
-      lowest_cheapest_grid_exists = λ le. exists rule law s le (surveyed h) inv.sound;
+      finished_grid_is_lowest_cheapest = λ f. lowest_held rule law (reaches rule law inv f.1) (inv.ended f.0 f.1) inv.held;
+      finished_rule_reaches_top = λ f. reaches rule law inv f.1;
+      lowest_cheapest_grid_exists = λ le. exists rule law s le (surveyed h) inv.held.sound;
       brackets_contain_it = λ le g low u l.
-          subst (λ (b : Bracket). Holds b (g u)) (sym (inv.halved g (λ _. low) u l)) (halving_holds (done_of x) s.top (g u) (low.least.grid u l));
-      brackets_stay_whole = λ lt. drafted rule law s h x t inv (inv.idle lt);
+          subst (λ (b : Bracket). Holds b (g u)) (sym (inv.held.halved g (λ _. low) u l)) (halving_holds (done_of x) s.top (g u) (low.least.grid u l));
+      brackets_stay_whole = λ lt. drafted rule law s (surveyed h) (done_of x) t inv.held (inv.held.idle lt);
       raised_readings_lower_no_height = λ f s' k y w same run' f' up u l.
           let inv' : Inv rule s k y w = invariant rule law (subst (λ (z : Shape). Run rule z k y w) (same_shape s s' same) run') in
-          let e = ends_at rule law inv f.1 in
-          let e' = ends_at rule law inv' f'.1 in
-          let le = compare rule law s (reaches rule law inv f.1) (surveyed h) (surveyed k) e.0 e'.0 inv.sound inv'.sound up e.1 e'.1 u l in
-          omega (arith, e.2 u l, e'.2 u l);
+          let reach = reaches rule law inv f.1 in
+          compare rule law s reach (surveyed h) (surveyed k) (heights t) (heights w) inv.held.sound inv'.held.sound up
+          (lowest_held rule law reach (inv.ended f.0 f.1) inv.held) (lowest_held rule law reach (inv'.ended f'.0 f'.1) inv'.held) u l;
       shape_stays = inv.shaped;
-      records_hold_the_survey = inv.recorded;
-      records_stay_sound = stays_sound rule law inv;
+      records_hold_the_survey = inv.held.recorded;
+      records_stay_sound = stays_sound rule law inv.held;
     }

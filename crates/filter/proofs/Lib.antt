@@ -4,12 +4,10 @@ pub mod Outcomes
 pub mod Keeping
 pub mod Keeps
 pub mod Joining
-pub mod Heights
 pub mod Rounds
 pub mod RunsKept
 pub mod Places
 pub mod Resurveyed
 pub mod Staying
-pub mod Numbers
 pub mod ByNumbers
 pub mod Writes

@@ -1,17 +1,18 @@
 -- What a refused call leaves of a run.
-use Rattle.std.proofs.Common.{◌≡◌, ℕ, ◌<◌, [], length, Ok, Err, Result, refl, ap, subst, arith}
+use Rattle.std.proofs.Common.{◌≡◌, ℕ, ◌<◌, ◌≤◌, [], length, Option, Some, None, Ok, Err, Result, refl, sym, ap, ◌∙◌, subst, arith}
 use Rattle.limits.specs.declared.refusal.Refusal.{Refusal}
 use Rattle.limits.proofs.Outcomes.{Outcome, either, none_found, unrefused}
 use Rattle.price.specs.Rules.{Rule}
+use Rattle.theory.specs.Grids.{energy}
+use Rattle.tile.specs.declared.shape.Shape.{Shape}
 use Rattle.tile.specs.Rating.{Rated}
 use Rattle.tile.specs.Shapes.{cells}
-use Rattle.tile.specs.Tiles.{Tile}
+use Rattle.tile.specs.Tiles.{Tile, survey, heights, problem}
 use Rattle.filter.specs.declared.states.Level.{Level}
 use Rattle.filter.specs.declared.answers.Refused.{Refused}
 use Rattle.filter.specs.Checks.{CostChecked}
 use Rattle.filter.specs.Calls.{GivesBack, LeavesAll, CostDoes}
 use Rattle.filter.specs.Runs.{Accepted, begun, rounded, finished, reopened, History, State, draft, rounding, level, shape_of, added, next, Call}
-use Rattle.filter.proofs.Heights.{low_ends, rated_low}
 
 -- what a refused call leaves: state, tile and history as they were
 pub record Unchanged (x x' : State) (t t' : Tile) (new : History) : Type 0 where
@@ -39,8 +40,17 @@ short_call lt (Call.reopen_level {t} {t'} l answer w) = either (all_again level 
 
 -- ---- cost, by the energy that was answered
 
-pub cost_made : (rule : Rule) (l : Level) (t : Tile) (greatest : ℕ) (answer : Result ℕ Refusal) → greatest ≡ rule.greatest →
-    CostChecked l.shape l.done t greatest (λ e. ◌≡◌ {A = Outcome} (Ok tt) (Err e)) (◌≡◌ {A = Outcome} (Ok tt) (Ok tt)) → Rated rule l.shape t (low_ends t) answer → CostDoes rule l t answer
-cost_made rule l t greatest answer e w rated =
-    let found = subst (λ (n : ℕ). CostChecked l.shape l.done t n (λ e. ◌≡◌ {A = Outcome} (Ok tt) (Err e)) (◌≡◌ {A = Outcome} (Ok tt) (Ok tt))) e w in
-    either (λ why z. none_found why z) (λ whole _. unrefused (unrefused (unrefused (λ _. rated_low rule l.shape t answer whole rated))) found) found
+-- where there is a record for each cell there is one
+pub rated : (rule : Rule) (s : Shape) (t : Tile) (answer : Option ℕ) → cells s ≤ length t → Rated rule s t answer → answer ≡ Some (energy (problem rule s (survey t)) (heights t))
+rated rule s t (Some n) whole k = ap Some k.value
+rated rule s t None whole k = absurd (omega (arith, k))
+
+pub found_whole : (s : Shape) (done : ℕ) (t : Tile) (greatest : ℕ) → CostChecked s done t greatest (λ e. ◌≡◌ {A = Outcome} (Ok tt) (Err e)) (◌≡◌ {A = Outcome} (Ok tt) (Ok tt)) → cells s ≤ length t
+found_whole s done t greatest = either (λ why z. none_found why z) (λ whole _. whole)
+
+pub cost_made : (rule : Rule) (l : Level) (t : Tile) (greatest : ℕ) (answer : Option ℕ) (n : ℕ) → greatest ≡ rule.greatest →
+    CostChecked l.shape l.done t greatest (λ e. ◌≡◌ {A = Outcome} (Ok tt) (Err e)) (◌≡◌ {A = Outcome} (Ok tt) (Ok tt)) → Rated rule l.shape t answer → answer ≡ Some n → CostDoes rule l t (Ok n)
+cost_made rule l t greatest answer n e w found is =
+    let whole = found_whole l.shape l.done t greatest w in
+    let here : n ≡ energy (problem rule l.shape (survey t)) (heights t) = cc (sym is ∙ rated rule l.shape t answer whole found) in
+    unrefused (unrefused (unrefused (λ _. ap Ok here))) (subst (λ (k : ℕ). CostChecked l.shape l.done t k (λ e. ◌≡◌ {A = Outcome} (Ok tt) (Err e)) (◌≡◌ {A = Outcome} (Ok tt) (Ok tt))) e w)

@@ -32,4 +32,4 @@ sound_slice law rule lawful s h x t run u l =
 -- a slice with enough records begins with the run's
 pub lent_whole : {n : ℕ} {r t t' r' : Tile} → n ≤ length t → Lent n r t t' r' → (r ≡ take n t) × (r' ≡ take n t')
 lent_whole le (Lent.all _) = (refl, refl)
-lent_whole le (Lent.part front back lt) = absurd (omega arith)
+lent_whole le (Lent.part lt) = absurd (omega arith)

@@ -4,12 +4,12 @@ use Rattle.limits.specs.Checking.{RefusedAs}
 use Rattle.limits.specs.Limits.{most_rows}
 use Rattle.limits.specs.declared.refusal.Refusal.{Refusal}
 use Rattle.price.specs.Rules.{Rule}
-use Rattle.theory.specs.Grids.{Heights, energy}
+use Rattle.theory.specs.Grids.{energy}
 use Rattle.theory.specs.Sets.{SmallestCheapestSet}
 use Rattle.tile.specs.declared.shape.Shape.{Shape}
 use Rattle.tile.specs.declared.side.Side.{Side}
 use Rattle.tile.specs.Shapes.{cells, MadeOf}
-use Rattle.tile.specs.Tiles.{Tile, cell, survey, problem}
+use Rattle.tile.specs.Tiles.{Tile, cell, survey, heights, problem}
 use Rattle.flow.specs.Networks.{network, marks}
 use Rattle.passes.specs.Writing.{with_reading, with_ties, fresh, reset, rewritten}
 use Rattle.passes.specs.Rounds.{charge_in, charged, narrowed}
@@ -132,10 +132,6 @@ abbrev pub ReopenDoes : {S : Type 0} → S → Shape → ℕ → Tile → Result
 ReopenDoes state s done t answer t' = TileChecked s done t (LeavesAll state t answer t') (Reopened s t answer t')
 
 -- ---- height and cost
-
--- the grid that the records hold: each cell's low end
-abbrev pub heights : Tile → Heights
-heights t u = (cell t u).low
 
 -- height: that of one cell
 abbrev pub HeightDoes : Level → Tile → (row column : ℕ) → Result ℕ Refusal → Type 0

@@ -7,17 +7,15 @@ use Rattle.price.specs.Kinds.{absolute}
 use Rattle.theory.specs.Grids.{LowestCheapestGrid}
 use Rattle.tile.specs.declared.shape.Shape.{Shape}
 use Rattle.tile.specs.declared.side.Side.TheVariants.{Rightward, Downward}
-use Rattle.tile.specs.Tiles.{Tile, blank, problem}
+use Rattle.tile.specs.Tiles.{Tile, blank, problem, heights}
 use Rattle.flow.specs.Points.{FourPoints}
 use Rattle.passes.specs.Writing.{with_reading, weights, fresh}
 use Rattle.filter.specs.declared.states.Draft.{Draft}
 use Rattle.filter.specs.declared.states.Rounding.{Rounding}
 use Rattle.filter.specs.declared.states.Level.{Level}
 use Rattle.filter.specs.declared.answers.Refused.{Refused}
-use Rattle.filter.specs.Calls.{heights, StartDoes, PutDoes, TieDoes, BeginDoes, RoundDoes, FinishDoes, ReopenDoes, HeightDoes, CostDoes}
-use Rattle.filter.specs.Copying.{HeightsDo}
-use Rattle.filter.specs.Resuming.{RoundingRanged, LevelRanged}
-use Rattle.filter.specs.Runs.{put_at, tied_at, begun, rounded, finished, reopened, History, Finished, surveyed, rounding, level, added, Lent, Run}
+use Rattle.filter.specs.Calls.{StartDoes, PutDoes, TieDoes, BeginDoes, RoundDoes, FinishDoes, ReopenDoes, HeightDoes, CostDoes}
+use Rattle.filter.specs.Runs.{put_at, tied_at, begun, rounded, finished, reopened, History, Finished, surveyed, State, rounding, level, added, Lent, Run}
 use Rattle.filter.specs.Laws.{SameShape, Raised}
 
 -- ---- what a history surveyed
@@ -39,10 +37,11 @@ pub record HistoriesAreRead : Type 0 where
   pub accepted_calls_are_added : added {X = ℕ} {E = ℕ} finished (Ok 0) ≡ finished ∷ []
   pub refused_calls_are_not : added {X = ℕ} {E = ℕ} finished (Err 0) ≡ []
 
--- what a call may be lent of a run's one record: a slice that begins with it, or a part that is too short, but no other record
+-- what a call may be lent of a run's records: a slice that begins with them, or one that is too short, but no other records
 pub record LendingIsRead : Type 0 where
   pub a_longer_slice : Lent 1 (fresh 1 ∷ []) (fresh 1 ∷ blank ∷ []) (fresh 2 ∷ blank ∷ []) (fresh 2 ∷ [])
   pub too_short_a_part : Lent 1 (fresh 1 ∷ []) [] [] (fresh 1 ∷ [])
+  pub too_short_whatever_it_holds : Lent 2 (fresh 1 ∷ fresh 1 ∷ []) (blank ∷ []) (blank ∷ []) (fresh 1 ∷ fresh 1 ∷ [])
   pub another_record : Lent 1 (fresh 1 ∷ []) (blank ∷ []) (blank ∷ []) (blank ∷ []) → ⊥
 
 -- ---- a tile of one cell, with heights 0 and 1
@@ -94,6 +93,8 @@ pub record RunsCanBeMet : Type 0 where
   pub top_in_reach_of_the_rule : one_cell.top ≤ (absolute 1).greatest
   -- its last call is a round that is refused
   pub run_below_top : Run (absolute 1) tall_cell (begun ∷ []) (rounding tall_rounding) (fresh 2 ∷ [])
+  -- and none of them is ever finished
+  pub no_run_below_top_is_finished : (h : History) (x : State) (t : Tile) → Run (absolute 1) tall_cell h x t → Finished h → ⊥
   pub top_out_of_reach : (absolute 1).greatest < tall_cell.top
 
 -- ---- what each call of such a run answers
@@ -132,11 +133,6 @@ pub record RoundCallsAreRead : Type 0 where
 pub record LevelCallsAreRead : Type 0 where
   pub height_of_the_cell : HeightDoes levelled (ended 1 (pos 0)) 0 0 (Ok 1)
   pub column_outside : HeightDoes levelled (ended 1 (pos 0)) 0 1 (Err Outside)
-  pub heights_copied : HeightsDo levelled (ended 1 (pos 0)) (8 ∷ 8 ∷ []) (Ok tt) (1 ∷ 8 ∷ [])
-  pub no_place : HeightsDo levelled (ended 1 (pos 0)) [] (Err FewRecords) []
   pub cost_of_the_reading : CostDoes (absolute 1) levelled (ended 1 (pos 0)) (Ok 0)
   pub cost_of_no_more : CostDoes (absolute 1) levelled (ended 1 (pos 0)) (Ok 1) → ⊥
   pub reopened_tile : ReopenDoes levelled one_cell 1 (ended 1 (pos 0)) (Ok drafted) (put_in 1)
-  pub numbers_of_a_level : LevelRanged 1 1 1 1
-  pub a_round_is_due : LevelRanged 1 1 1 0 → ⊥
-  pub eleven_rounds_are_too_many : RoundingRanged 1 1 1 11 → ⊥

@@ -7,9 +7,8 @@ use Rattle.tile.specs.declared.side.Side.{Side}
 use Rattle.tile.specs.Halving.{from_to, Holds}
 use Rattle.tile.specs.Records.{stored_tie, stored_bracket}
 use Rattle.tile.specs.Shapes.{cells}
-use Rattle.tile.specs.Tiles.{Tile, Survey, cell, problem}
+use Rattle.tile.specs.Tiles.{Tile, Survey, cell, problem, heights}
 use Rattle.passes.specs.Soundness.{Sound}
-use Rattle.filter.specs.Calls.{heights}
 use Rattle.filter.specs.Runs.{History, Finished, surveyed, State, shape_of, done_of, Run}
 
 -- the same rows, columns and top
@@ -36,6 +35,8 @@ pub record Law (rule : Rule) (s : Shape) (h : History) (x : State) (t : Tile) : 
   -- If finish was the last call accepted, no grid of heights 0..top costs less than the grid of the low ends, and no grid of
   -- the same cost is lower at any cell.
   pub finished_grid_is_lowest_cheapest : Finished h → LowestCheapestGrid (problem rule s (surveyed h)) (heights t)
+  -- Then the rule reaches top.
+  pub finished_rule_reaches_top : Finished h → s.top ≤ rule.greatest
   -- Whichever call came last, there is a lowest cheapest grid, and every bracket contains its height.
   pub lowest_cheapest_grid_exists : s.top ≤ rule.greatest → (g : Heights) × LowestCheapestGrid (problem rule s (surveyed h)) g
   pub brackets_contain_it : s.top ≤ rule.greatest → (g : Heights) → LowestCheapestGrid (problem rule s (surveyed h)) g →

@@ -2,6 +2,4 @@ pub mod Checks
 pub mod Calls
 pub mod Runs
 pub mod Laws
-pub mod Resuming
-pub mod Copying
 pub mod Examples

@@ -95,11 +95,11 @@ pub data Call (rule : Rule) : State → Tile → Tile → State → History → 
   reopen_level : {t t' : Tile} (l : Level) (answer : Result Draft (Refused Level)) → ReopenDoes l l.shape l.done t answer t' →
       Call rule (level l) t t' (next level draft answer) (added reopened answer)
 
--- What a call is lent of a run's n records: a slice that begins with them, or a part of them that is too short. The indices are
--- the run's records, the slice as lent, the slice as left, and the run's records then.
+-- What a call is lent in a run with n records: a slice that begins with them, or one that is too short, whatever it holds; then the
+-- run's records stay as they were. The indices are the run's records, the slice as lent, the slice as left, and the run's records then.
 pub data Lent (n : ℕ) : Tile → Tile → Tile → Tile → Type 0 where
   all : {t t' : Tile} → n ≤ length t → Lent n (take n t) t t' (take n t')
-  part : (front back : Tile) {t t' : Tile} → length t < n → Lent n (front ++ (t ++ back)) t t' (front ++ (t' ++ back))
+  part : {r t t' : Tile} → length t < n → Lent n r t t' r
 
 -- ---- runs
 

@@ -1,9 +1,7 @@
 // The states of a tile: plain numbers, moved from call to call. The host keeps the records and lends them to each call.
 mod checking;
-pub mod copying;
 pub mod draft_calls;
 pub mod level_calls;
-pub mod resuming;
 pub mod round_calls;
 
 ghost use Rattle.std.specs.Prelude.{◌≤◌};
@@ -12,14 +10,14 @@ ghost use Rattle.tile.specs.Halving.{RoundsOver};
 
 use tile::Shape;
 
-// Readings, classes and ties are being written.
+/// Readings, classes and ties are being written.
 #[derive(Drop)]
 pub struct Draft {
     shape: Shape,
     ghost tall: { shape.rows ≤ most_rows },
 }
 
-// The rounds are under way.
+/// The rounds are under way.
 #[derive(Drop)]
 pub struct Rounding {
     shape: Shape,
@@ -28,8 +26,8 @@ pub struct Rounding {
     ghost few: { done ≤ most_rounds },
 }
 
-// The rounds due are done: every cell has one height. A `Rounding` has the same numbers; a struct for what both hold would put
-// one more name into each of their contracts.
+// A `Rounding` has the same numbers; a struct for what both hold would put one more name into each of their contracts.
+/// The rounds due are done: every cell has one height.
 #[derive(Drop)]
 pub struct Level {
     shape: Shape,

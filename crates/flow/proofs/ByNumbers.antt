@@ -1,13 +1,10 @@
 -- The examples in numbers, computed.
-use Rattle.std.specs.Prelude.{is_ok, unsigned_abs}
-use Rattle.std.proofs.Common.{◌≡◌, ℕ, zero, suc, ◌<◌, ◌≤◌, false, [], ◌∷◌, pos, neg_ℤ, ◌<ℤ◌, Ok, Err, Result, refl, sym, ap, subst, ⊎_elim, arith, true≢false}
+use Rattle.std.specs.Prelude.{unsigned_abs}
+use Rattle.std.proofs.Common.{◌≡◌, ℕ, zero, suc, ◌<◌, ◌≤◌, false, [], ◌∷◌, pos, neg_ℤ, ◌<ℤ◌, refl, sym, ap, subst, ⊎_elim, arith, true≢false}
 use Rattle.std.proofs.lemmas.Int.{ints}
 use Rattle.std.proofs.lemmas.Bool.{cases_lt}
 use Rattle.std.specs.List.{ContainsAt as Has}
 use Rattle.limits.specs.Limits.{most_charge, most_tie}
-use Rattle.limits.specs.declared.refusal.Refusal.{Refusal}
-use Rattle.limits.specs.Checking.{refused, passed}
-use Rattle.limits.proofs.Outcomes.{surely}
 use Rattle.theory.specs.Flows.{remainder, forth, back, Reached, deficit, onward}
 use Rattle.theory.proofs.ByNumbers.{both}
 use Rattle.tile.specs.declared.cell.Cell.{Cell}
@@ -20,7 +17,7 @@ use Rattle.tile.specs.Examples.{two_in_a_row, first, second, pair}
 use Rattle.flow.specs.Sides.{uncut}
 use Rattle.flow.specs.Networks.{charges, flow_on, network, is_live}
 use Rattle.flow.specs.Points.{Cuttable, FlowsFit, FourPoints}
-use Rattle.flow.specs.Examples.{between, before, marked, NetworksAreRead, TilesToCut, PointsOfCuts, CutsOfTiles}
+use Rattle.flow.specs.Examples.{between, before, marked, NetworksAreRead, TilesToCut, PointsOfCuts}
 use Rattle.flow.proofs.Certifies.{cut_marks}
 
 pub networks : NetworksAreRead
@@ -143,18 +140,3 @@ points = record {
   another_charge_breaks_point_1 = λ p. omega (arith, ap (λ (c : Cell). c.low) (p.kept 1 (omega arith)));
   another_record_past_the_cells_breaks_point_1 = λ p. omega (arith, ap (λ (c : Cell). c.reading) (p.past 2 (omega arith)));
 }
-
--- ---- one cut
-
-pub cuts : CutsOfTiles
-cuts = record {
-  two_entries_do = passed (omega arith) (passed given (passed (omega arith) (record { answers = refl; left = kept_points; points = kept_points; smallest = cut_marks two_in_a_row before pair kept_points })));
-  one_entry_is_too_few = passed (omega arith) (passed given (refused (λ l. omega (arith, l)) refl (refl, refl)));
-  one_record_is_too_few = refused (λ l. omega (arith, l)) refl (refl, refl);
-  a_flow_past_the_weight_is_corrupt = passed (omega arith) (refused (λ c. omega (arith, c.flows.bounded 0 Rightward (omega arith))) refl (refl, refl));
-  two_entries_are_not_refused = λ c. not_answered (surely (omega arith) (surely given (surely (omega arith) c))).answers;
-  nothing_is_not_left = λ c. omega (arith, (surely (omega arith) (surely given (surely (omega arith) c))).points.marked 1 (omega arith) (deficit (omega arith) (omega (arith, ints))));
-}
-  where
-    not_answered : {e : Refusal} → ◌≡◌ {A = Result (Unit {0}) Refusal} (Err e) (Ok tt) → ⊥
-    not_answered same = true≢false (sym (ap is_ok same))

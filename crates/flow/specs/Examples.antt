@@ -1,6 +1,5 @@
 -- Examples in numbers, which pin the definitions: the first cut of readings 0 and 10 over a tie of weight 6, with charges 11 and −9.
-use Rattle.std.specs.Prelude.{◌≡◌, ℕ, false, true, [], ◌∷◌, Ok, Err, pos, neg_ℤ}
-use Rattle.limits.specs.declared.refusal.Refusal.TheVariants.{FewRecords, Corrupt, FewEntries}
+use Rattle.std.specs.Prelude.{◌≡◌, ℕ, false, true, [], ◌∷◌, pos, neg_ℤ}
 use Rattle.theory.specs.Sets.{SmallestCheapestSet}
 use Rattle.theory.specs.Flows.{remainder}
 use Rattle.tile.specs.declared.cell.Cell.{Cell}
@@ -11,7 +10,6 @@ use Rattle.tile.specs.Examples.{two_in_a_row, first, second, settled_at_seven, p
 use Rattle.flow.specs.Sides.{uncut}
 use Rattle.flow.specs.Networks.{charges, flow_on, network, is_live, marks}
 use Rattle.flow.specs.Points.{Cuttable, FourPoints}
-use Rattle.flow.specs.Cutting.{CutDoes}
 
 -- the tie between the two
 abbrev pub between : Tie
@@ -66,12 +64,3 @@ pub record PointsOfCuts : Type 0 where
   pub seven_back_break_point_2 : FourPoints two_in_a_row before (overfull ∷ second ∷ []) → ⊥
   pub another_charge_breaks_point_1 : FourPoints two_in_a_row before (first ∷ settled_at_seven ∷ []) → ⊥
   pub another_record_past_the_cells_breaks_point_1 : FourPoints two_in_a_row (uncut first ∷ uncut second ∷ first ∷ []) (first ∷ second ∷ second ∷ []) → ⊥
-
--- one cut, by a maker that may leave whatever keeps the four points
-pub record CutsOfTiles : Type 0 where
-  pub two_entries_do : CutDoes FourPoints two_in_a_row before 2 (Ok tt) pair
-  pub one_entry_is_too_few : CutDoes FourPoints two_in_a_row before 1 (Err FewEntries) before
-  pub one_record_is_too_few : CutDoes FourPoints two_in_a_row (first ∷ []) 0 (Err FewRecords) (first ∷ [])
-  pub a_flow_past_the_weight_is_corrupt : CutDoes FourPoints two_in_a_row (overfull ∷ second ∷ []) 0 (Err Corrupt) (overfull ∷ second ∷ [])
-  pub two_entries_are_not_refused : CutDoes FourPoints two_in_a_row before 2 (Err FewEntries) before → ⊥
-  pub nothing_is_not_left : CutDoes FourPoints two_in_a_row before 2 (Ok tt) before → ⊥

@@ -3,5 +3,4 @@ pub mod Lent
 pub mod Networks
 pub mod Points
 pub mod Charts
-pub mod Cutting
 pub mod Examples

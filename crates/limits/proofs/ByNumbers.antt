@@ -1,5 +1,4 @@
 -- The examples, computed.
-use Rattle.std.specs.Fmt.{digits}
 use Rattle.std.proofs.Common.{◌≡◌, ◌<◌, refl, ap, arith}
 use Rattle.limits.specs.declared.refusal.Refusal.TheVariants.{Outside, Reading}
 use Rattle.limits.specs.Refusals.{number}
@@ -7,8 +6,7 @@ use Rattle.limits.specs.Checking.{Checked, refused, passed}
 use Rattle.limits.specs.Examples.{TextsOfRefusals, NonePasses, ChecksAreRead}
 
 pub texts : TextsOfRefusals
-unfolding digits
-texts = record { few_records = refl; rounds_left = refl }
+texts = record { few_records = refl; its_number = refl; rounds_left = refl }
 
 not_refused : Checked 4 Outside (1 < 2) (λ _. Unit {0}) ⊥ → ⊥
 not_refused (refused fails _ _) = fails (omega arith)

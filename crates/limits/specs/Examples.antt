@@ -1,12 +1,13 @@
 -- Examples, which pin the definitions.
 use Rattle.std.specs.Prelude.{◌≡◌, ℕ, ◌<◌, codes}
 use Rattle.limits.specs.declared.refusal.Refusal.TheVariants.{FewRecords, Outside, Reading, RoundsLeft}
-use Rattle.limits.specs.Refusals.{refusal_text}
+use Rattle.limits.specs.Refusals.{number, refusal_text}
 use Rattle.limits.specs.Checking.{CheckedBy, Checked, EachChecked}
 
 pub record TextsOfRefusals : Type 0 where
-  pub few_records : refusal_text FewRecords ≡ codes "refused 2"
-  pub rounds_left : refusal_text RoundsLeft ≡ codes "refused 10"
+  pub few_records : refusal_text FewRecords ≡ codes "fewer records than cells"
+  pub its_number : number FewRecords ≡ 2
+  pub rounds_left : refusal_text RoundsLeft ≡ codes "rounds are left"
 
 -- a check of each cell that none passes; e is the cell that is refused, and left says which one
 abbrev pub NonePasses : (ℕ → Type 0) → Type 0

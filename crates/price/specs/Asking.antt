@@ -1,4 +1,4 @@
--- What a curve is asked.
+-- What a rule is asked.
 use Rattle.std.specs.Prelude.{◌≡◌, ℕ, Bool, Option, MatchOption, IsTrue, IsFalse}
 use Rattle.price.specs.declared.question.Question.{Question}
 

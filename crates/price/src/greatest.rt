@@ -33,8 +33,8 @@ impl Greatest {
         self.level
     }
 
-    // What a curve is asked, if a rule made for this level has a price for the height.
-    pub(crate) fn question(self, reading: u16, class: u8, height: u16) -> Option<Question>
+    // What a rule is asked, if a rule made for this level has a price for the height.
+    pub fn question(self, reading: u16, class: u8, height: u16) -> Option<Question>
         ensures { AskedWhere (known self.level reading class && nat_le height self.level)
             reading class height result }
     {
@@ -49,8 +49,8 @@ impl Greatest {
         }
     }
 
-    // What a curve is asked, if such a rule has a step from the height to the next.
-    pub(crate) fn step_question(self, reading: u16, class: u8, height: u16) -> Option<Question>
+    // What a rule is asked, if such a rule has a step from the height to the next.
+    pub fn step_question(self, reading: u16, class: u8, height: u16) -> Option<Question>
         ensures { AskedWhere (known self.level reading class && nat_lt height self.level)
             reading class height result }
     {

@@ -2,11 +2,10 @@
 #![tactic(auto)]
 
 pub mod absolute;
-pub mod curve;
 pub mod examples;
-pub mod greatest;
+mod greatest;
 pub mod leaning;
-pub mod question;
+mod question;
 pub mod rule;
 pub mod squared;
 #[cfg(test)]
@@ -14,9 +13,7 @@ mod tests;
 pub mod weight;
 
 pub use absolute::Absolute;
-pub use curve::{Curve, CurveRule};
 pub use leaning::Leaning;
-pub use question::Question;
 pub use rule::PriceRule;
 pub use squared::Squared;
 pub use weight::class_weight;

@@ -1,4 +1,4 @@
-// What a curve is asked.
+// What a rule is asked.
 ghost use Rattle.std.specs.Prelude.{◌≤◌};
 ghost use Rattle.limits.specs.Limits.{most_top, most_class};
 

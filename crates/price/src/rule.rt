@@ -3,7 +3,7 @@ ghost use Rattle.std.specs.Prelude.{◌≡◌};
 ghost use Rattle.price.specs.Rules.{Rule, Lawful, priced, stepped};
 
 // By the rules of the product any numbers are answered, and 0 where they are out of range, which an energy adds as it is:
-// so the numbers come plain and not as a `Question`, and there is no `Option`.
+// so the numbers come plain, and there is no `Option`.
 pub trait PriceRule {
     // The rule that the value stands for.
     ghost rule: { Self → Rule };

@@ -13,6 +13,7 @@ fn weights(rt: HostRuntime) {
     for (class, weight) in (0..16).zip(expected) {
         assert_eq!(rt; class_weight(class), weight);
     }
+    assert_eq!(rt; class_weight(16), 0);
 }
 
 #[test]

@@ -1,8 +1,9 @@
-use Rattle.std.proofs.Common.{◌≡◌, ℕ, ◌+◌, ◌-◌, ◌%◌, ◌<◌, ◌≤◌, List, [], ◌∷◌, ◌++◌, length, get_or, take, drop, set, refl, ap, ◌∙◌, ⊎_elim, append_assoc, append-nil, add-one, mod-eq_of_lt, arith, length-append, length-drop, length-take}
+use Rattle.std.proofs.Common.{◌≡◌, ℕ, ◌+◌, ◌-◌, ◌%◌, ◌<◌, ◌≤◌, List, [], ◌∷◌, ◌++◌, length, slice_get, get_or, take, drop, set, Some, refl, ap, ap₂, ◌∙◌, ⊎_elim, append_assoc, append-nil, add-one, mod-eq_of_lt, arith, length-append, length-drop, length-take}
 use Rattle.std.proofs.Math.Nat.{mod-eq-sub-mod}
 use lib.Seq.{take-set-lt}
 use Rattle.std.proofs.lemmas.List.{take_all, take_more, take-append-le, take-set-le, take_more_set, drop_all, drop_more, drop-set-lt, drop-set-add, set-append_left, set-append_right}
 use Rattle.std.proofs.lemmas.Bool.{cases_lt}
+use Rattle.std.proofs.lemmas.Option.{get_or_from_slice_get}
 use Rattle.queue.specs.Waiting.{waiting}
 
 -- as many wait as len says, where there are slots enough
@@ -64,14 +65,14 @@ served_ahead xs head n d h l =
 waiting_at_end : {X : Type 0} (xs : List X) (head n : ℕ) → length xs ≤ head → waiting xs head n ≡ waiting xs 0 n
 waiting_at_end xs head n h = rw (drop_all head xs h, take_all head xs h, append-nil)
 
--- what waits is the entry at the head, and then what waits from the next place on, around the end
-pub waiting_less : {X : Type 0} (xs : List X) (head n : ℕ) (d : X) → head < length xs → n < length xs
-    → waiting xs head (n + 1) ≡ get_or xs head d ∷ waiting xs ((head + 1) % length xs) n
-waiting_less xs head n d h l =
+-- what waits is the entry that is taken from the slot at the head, and then what waits from the next place on, around the end
+pub waiting_taken : {X : Type 0} (xs : List X) (head n : ℕ) (x : X) → slice_get xs head ≡ Some x → head < length xs → n < length xs
+    → waiting xs head (n + 1) ≡ x ∷ waiting xs ((head + 1) % length xs) n
+waiting_taken xs head n x e h l =
     let rest : waiting xs (head + 1) n ≡ waiting xs ((head + 1) % length xs) n =
     ⊎_elim
     (λ s. let e : (head + 1) % length xs ≡ head + 1 = mod-eq_of_lt s in rw e)
     (λ s. let z : (head + 1) % length xs ≡ 0 = let e = wraps (head + 1) (length xs) s (omega arith) in omega (arith, e) in
     rw z (waiting_at_end xs (head + 1) n s))
     (cases_lt (head + 1) (length xs)) in
-    served_ahead xs head n d h l ∙ ap (λ tail. get_or xs head d ∷ tail) rest
+    served_ahead xs head n x h l ∙ ap₂ (λ y ys. y ∷ ys) (get_or_from_slice_get xs head x x e) rest

@@ -1,12 +1,13 @@
+// A queue, first in, first out, over slots that the caller lends.
 #![tactic(auto)]
 
 pub mod examples;
 
-ghost use Rattle.std.specs.Prelude.{◌≡◌, ◌+◌, ◌%◌, ◌<◌, ◌≤◌, [], length, MatchOption};
+ghost use Rattle.std.specs.Prelude.{◌≡◌, ◌+◌, ◌%◌, ◌<◌, ◌≤◌, [], Some, length, slice_get, slice_set, MatchOption};
 
-// A queue, first in, first out, in a ring over slots that the caller lends: a `VecDeque` would need a heap.
-// `len` entries wait, from slot `head` on, and past the last slot from the first one on.
-// No more wait than there are slots, and the head is one of them, if there is any.
+/// A queue, first in, first out, in a ring over slots that the caller lends: a `VecDeque` would need a heap.
+/// `len` entries wait, from slot `head` on, and past the last slot from the first one on.
+/// No more wait than there are slots, and the head is one of them, if there is any.
 #[derive(Drop)]
 pub struct Queue<'a, T> {
     slots: &'a mut [T],
@@ -19,7 +20,7 @@ pub struct Queue<'a, T> {
 impl<'a, T: Copy> Queue<'a, T> {
     ghost use Rattle.queue.specs.Queue.{waits, capacity, Enqueued, EnqueuedIf, Dequeued};
 
-    // A queue in which nothing waits, over all the slots. What they hold does not matter.
+    /// A queue in which nothing waits, over all the slots. What they hold does not matter.
     pub fn new(slots: &'a mut [T]) -> Queue<'a, T>
         ensures empty { waits result ≡ [] }
         ensures room { capacity result ≡ length slots.old }
@@ -31,7 +32,7 @@ impl<'a, T: Copy> Queue<'a, T> {
         }
     }
 
-    // Has the entry wait last. Where as many wait as there are slots, gives it back and changes nothing.
+    /// Has the entry wait last. Where as many wait as there are slots, gives it back and changes nothing.
     #[tactic(auto, using(crate::proofs::Rings::waiting_more, crate::proofs::Rings::length_waiting, std::proofs::lemmas::Grind::common_steps))]
     pub fn enqueue(&mut self, entry: T) -> Result<(), T>
         ensures { Enqueued self.old self.new entry result }
@@ -39,13 +40,13 @@ impl<'a, T: Copy> Queue<'a, T> {
         let Some(last) = self.next_slot() else {
             return Err(entry);
         };
-        self.slots[last] = entry;
+        store(self.slots, last, entry);
         self.len += 1;
         Ok(())
     }
 
-    // Has the entry wait last if it is wanted and fewer wait than there are slots, and answers whether it waits now; else the same
-    // entries wait as before. It writes the slot either way, so that a test that comes out at random costs no branch.
+    /// Has the entry wait last if it is wanted and fewer wait than there are slots, and answers whether it waits now; else the same
+    /// entries wait as before. It writes the slot either way, so that a test that comes out at random costs no branch.
     #[tactic(auto, using(crate::proofs::Rings::waiting_more, crate::proofs::Rings::waiting_same, crate::proofs::Rings::length_waiting, std::proofs::lemmas::Grind::common_steps))]
     pub fn enqueue_if(&mut self, entry: T, wanted: bool) -> bool
         ensures { EnqueuedIf self.old self.new entry wanted result }
@@ -53,23 +54,30 @@ impl<'a, T: Copy> Queue<'a, T> {
         let Some(free) = self.next_slot() else {
             return false;
         };
-        self.slots[free] = entry;
+        store(self.slots, free, entry);
         self.len += usize::from(wanted);
         wanted
     }
 
-    // Serves the entry that has waited longest. Where nothing waits, answers None and changes nothing.
-    #[tactic(auto, using(crate::proofs::Rings::waiting_less))]
+    /// Serves the entry that has waited longest. Where nothing waits, answers None and changes nothing.
     pub fn dequeue(&mut self) -> Option<T>
         ensures { Dequeued self.old self.new result }
     {
         if self.len == 0 {
             return None;
         }
-        let entry = self.slots[self.head];
+        let entry = self.first();
         self.head = self.past_head(1);
         self.len -= 1;
         Some(entry)
+    }
+
+    // The entry at the head.
+    fn first(&self) -> T
+        requires { self.now.head < capacity self.now }
+        ensures { slice_get self.now.slots.now self.now.head ≡ Some result }
+    {
+        taken(self.slots, self.head)
     }
 
     // The slot for the next entry that waits: the one behind the last. None where as many wait as there are slots.
@@ -96,6 +104,22 @@ impl<'a, T: Copy> Queue<'a, T> {
             steps - left
         }
     }
+}
+
+// Writes an entry into a slot.
+fn store<T: Copy>(slots: &mut [T], at: usize, entry: T)
+    requires { at < length slots.old }
+    ensures { slots.new ≡ slice_set slots.old at entry }
+{
+    slots[at] = entry;
+}
+
+// The entry in a slot.
+fn taken<T: Copy>(slots: &[T], at: usize) -> T
+    requires { at < length slots.now }
+    ensures { slice_get slots.now at ≡ Some result }
+{
+    slots[at]
 }
 
 #[cfg(test)]

@@ -14,7 +14,10 @@ texts = record {
   two_rows_of_one = refl;
   heading_and_heights = refl;
   letter_refused = refl;
-  call_refused = refl;
+  entries_refused = refl;
+  its_number = refl;
+  number_of_a_fault = refl;
+  places_have_no_number = refl;
 }
 
 pub solutions : SolutionsAreRead

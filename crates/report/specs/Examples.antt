@@ -1,6 +1,5 @@
 -- Examples in numbers, which pin the definitions.
 use Rattle.std.specs.Prelude.{◌≡◌, [], ◌∷◌, pos, neg_ℤ, codes}
-use Rattle.limits.specs.declared.refusal.Refusal.TheVariants.{FewEntries}
 use Rattle.price.specs.Kinds.{absolute}
 use Rattle.passes.specs.Writing.{with_bracket}
 use Rattle.tile.specs.Halving.{from_to}
@@ -11,10 +10,10 @@ use Rattle.filter.specs.Examples.{one_cell, calls, ended}
 use Rattle.tilefile.specs.declared.fault.Section.TheVariants.{Rule}
 use Rattle.tilefile.specs.declared.fault.Flaw.TheVariants.{Letter}
 use Rattle.tilefile.specs.Sections.{fault}
-use Rattle.report.specs.declared.refusing.FileRefusal.TheVariants.{File, Call}
+use Rattle.report.specs.declared.refusing.FileRefusal.TheVariants.{File, FewEntries, FewPlaces}
 use Rattle.report.specs.declared.solving.Solution.{Solution}
 use Rattle.report.specs.Printing.{line, grid_text, solution_text}
-use Rattle.report.specs.Refusing.{file_refusal_text}
+use Rattle.report.specs.Refusing.{file_refusal_number, file_refusal_text}
 use Rattle.report.specs.Solving.{SolvedAs}
 
 -- two cells solved: a row, two columns, top 10, four rounds and the energy 42, with the heights 3 and 7
@@ -30,7 +29,10 @@ pub record TextsAreRead : Type 0 where
   pub two_rows_of_one : grid_text 2 1 solved_cells ≡ codes "3\n7\n"
   pub heading_and_heights : solution_text of_two_cells solved_cells ≡ codes "1 2 10 4 42\n3 7\n"
   pub letter_refused : file_refusal_text (File (fault Rule 2 Letter)) ≡ codes "refused 13 1 2 0"
-  pub call_refused : file_refusal_text (Call FewEntries) ≡ codes "refused 7"
+  pub entries_refused : file_refusal_text FewEntries ≡ codes "fewer entries of workspace than cells"
+  pub its_number : file_refusal_number FewEntries ≡ 7
+  pub number_of_a_fault : file_refusal_number (File (fault Rule 2 Letter)) ≡ 13
+  pub places_have_no_number : file_refusal_number FewPlaces ≡ 0
 
 -- one cell with the reading 1: height 1 after one round, at no cost
 abbrev pub of_one_cell : Solution

@@ -34,8 +34,8 @@ fn answer_in<M: CutMaker>(
     }
 }
 
-// What is printed for a tile file, solved in so many records by a cut maker, of whose workspace an entry is given: a line about the
-// solution and a line for each row, or a line about the first fault. Only want of memory is an error.
+/// What is printed for a tile file, solved in so many records by a cut maker, of whose workspace an entry is given: a line about the
+/// solution and a line for each row, or a line about the first fault. Only want of memory is an error.
 pub fn answer<M: CutMaker>(
     alloc: Global,
     bytes: &[u8],

@@ -1,42 +1,39 @@
 // Solving a tile file: from its bytes to the lowest cheapest grid.
 ghost use Rattle.std.specs.Prelude.{◌≡◌, ◌≤◌, length};
-ghost use Rattle.limits.specs.declared.refusal.Refusal.TheVariants.{FewEntries};
-ghost use Rattle.limits.specs.Checking.{Checked};
 ghost use Rattle.tile.specs.Halving.{RoundsDue};
 ghost use Rattle.filter.specs.Calls.{KeptIfRefused};
 ghost use Rattle.tile.specs.Shapes.{cells};
 ghost use Rattle.tilefile.specs.Letters.{letter_rule};
 ghost use Rattle.tilefile.specs.Contents.{contents_survey};
 ghost use Rattle.solve.specs.Solving.{PastKept};
-ghost use Rattle.report.specs.Solving.{SolvedAs, SolveFileDoes};
+ghost use Rattle.report.specs.Solving.{SolvedAs, RecordsSolved, RoomChecked, SolveFileDoes};
 
 use crate::refusing::FileRefusal;
 use flow::CutMaker;
-use limits::Refusal;
 use price::PriceRule;
 use solve::solve;
 use tile::bracket::rounds_due;
 use tile::{Cell, Shape};
 use tilefile::{Contents, LetterRule};
 
-// What solving a file came to. The heights are the low ends of the records. Laid out as in C.
+/// What solving a file came to. The heights are the low ends of the records. Laid out as in C.
 #[repr(C)]
 #[derive(Clone, Copy, PartialEq, Eq, Debug)]
 pub struct Solution {
     pub rows: usize,
     pub columns: usize,
     pub top: u16,
-    // How many rounds were done.
+    /// How many rounds were done.
     pub rounds: u8,
     pub energy: u64,
 }
 
 // Is there an entry of workspace for each cell?
-pub(crate) fn check_room(shape: Shape, entries: usize) -> Result<(), Refusal>
-    ensures { Checked 7 FewEntries (cells shape ≤ entries) (λ e. result ≡ Err e) (result ≡ Ok tt) }
+pub(crate) fn check_room(shape: Shape, entries: usize) -> Result<(), FileRefusal>
+    ensures { RoomChecked shape entries (λ e. result ≡ Err e) (result ≡ Ok tt) }
 {
     if entries < shape.cells() {
-        return Err(Refusal::FewEntries);
+        return Err(FileRefusal::FewEntries);
     }
     Ok(())
 }
@@ -70,6 +67,7 @@ fn solve_contents<P: PriceRule, M: CutMaker>(
     requires room { cells contents.now.shape ≤ length entries.old }
     requires reach { (P.PriceRule.rule rule.now).greatest ≡ contents.now.shape.top }
     ensures solved { SolvedAs (P.PriceRule.rule rule.now) contents.now.shape (contents_survey contents.now) tile.new result }
+    ensures records { RecordsSolved (P.PriceRule.rule rule.now) (M.CutMaker.leaves maker.now) contents.now.shape (contents_survey contents.now) result.rounds tile.old tile.new }
     ensures kept { PastKept (cells contents.now.shape) tile.old tile.new }
 {
     let draft = contents.fill(tile).unwrap();
@@ -88,21 +86,24 @@ pub(crate) fn solve_by_letter<M: CutMaker>(
     requires records { cells contents.now.shape ≤ length tile.old }
     requires room { cells contents.now.shape ≤ length entries.old }
     ensures solved { SolvedAs (letter_rule contents.now.letter contents.now.shape.top) contents.now.shape (contents_survey contents.now) tile.new result }
+    ensures records { RecordsSolved (letter_rule contents.now.letter contents.now.shape.top) (M.CutMaker.leaves maker.now) contents.now.shape (contents_survey contents.now) result.rounds tile.old tile.new }
     ensures kept { PastKept (cells contents.now.shape) tile.old tile.new }
 {
     let rule = LetterRule::new(contents.letter(), contents.shape().top()).unwrap();
     solve_contents(contents, &rule, tile, maker, entries)
 }
 
-// Solves a tile file: reads it into the records, and makes their low ends the lowest cheapest grid of what the file says, under the
-// rule of its letter. It is refused for a fault of the file, and for fewer entries of workspace than the tile has cells.
+/// Solves a tile file: reads it into the records, and makes their low ends the lowest cheapest grid of what the file says, under the
+/// rule of its letter. It is refused for a fault of the file, and for fewer entries of workspace than the tile has cells. Otherwise the
+/// records are those at the end of a finished run; flows and ranks are free within what the maker may leave in the last round, and the
+/// workspace is free.
 pub fn solve_file<M: CutMaker>(
     bytes: &[u8],
     tile: &mut [Cell],
     maker: &M,
     entries: &mut [M::Entry],
 ) -> Result<Solution, FileRefusal>
-    ensures does { SolveFileDoes bytes.now tile.old (length entries.old) result tile.new }
+    ensures does { SolveFileDoes (M.CutMaker.leaves maker.now) bytes.now tile.old (length entries.old) result tile.new }
     ensures workspace { KeptIfRefused result entries.old entries.new }
 {
     let contents = Contents::check(bytes, tile.len())?;

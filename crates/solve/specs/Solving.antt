@@ -1,20 +1,21 @@
 -- What solving a draft answers and leaves, and what the steps of it do.
-use Rattle.std.specs.Prelude.{◌≡◌, ℕ, ◌+◌, ◌≤◌, length, take, Ok, Err, Result}
+use Rattle.std.specs.Prelude.{◌≡◌, ℕ, zero, suc, ◌+◌, ◌<◌, ◌≤◌, length, take, Result, IsOkAnd}
 use Rattle.limits.specs.declared.refusal.Refusal.{Refusal}
 use Rattle.limits.specs.declared.refusal.Refusal.TheVariants.{FewRecords, FewEntries, Ceiling}
-use Rattle.limits.specs.Checking.{Checked, RefusedAs}
+use Rattle.limits.specs.Checking.{Checked}
 use Rattle.price.specs.Rules.{Rule, Lawful}
 use Rattle.theory.specs.Grids.{LowestCheapestGrid}
 use Rattle.tile.specs.declared.shape.Shape.{Shape}
-use Rattle.tile.specs.Halving.{RoundsOver, RoundsDue}
+use Rattle.tile.specs.Halving.{RoundsOver, RoundLeft, RoundsDue}
 use Rattle.tile.specs.Shapes.{cells}
-use Rattle.tile.specs.Tiles.{Tile, Survey, cell, problem}
+use Rattle.tile.specs.Tiles.{Tile, Survey, cell, survey, problem, heights}
 use Rattle.passes.specs.Soundness.{Sound}
 use Rattle.filter.specs.declared.states.Draft.{Draft}
 use Rattle.filter.specs.declared.states.Rounding.{Rounding}
 use Rattle.filter.specs.declared.states.Level.{Level}
-use Rattle.filter.specs.Checks.{TileChecked, RoundChecked}
-use Rattle.filter.specs.Calls.{heights}
+use Rattle.filter.specs.declared.answers.Refused.{Refused}
+use Rattle.filter.specs.Checks.{TileChecked}
+use Rattle.filter.specs.Calls.{LeavesAll, HalvedBy}
 use Rattle.filter.specs.Runs.{History, Finished, surveyed, State, draft, rounding, level, Lent, Run}
 
 -- the records past the first n, and how many there are, are as they were
@@ -22,44 +23,61 @@ pub record PastKept (n : ℕ) (t t' : Tile) : Type 0 where
   pub long : length t' ≡ length t
   pub past : (u : ℕ) → n ≤ u → cell t' u ≡ cell t u
 
+-- ---- rounds one after the other
+
+-- From the tile t to the tile t' by so many rounds under the rule, each by a cut maker that may leave of a tile what `leaves` says.
+pub data HalvedTimes (rule : Rule) (leaves : Shape → Tile → Tile → Type 0) (s : Shape) : ℕ → Tile → Tile → Type 0 where
+  none : {t : Tile} → HalvedTimes rule leaves s zero t t
+  more : {n : ℕ} {t u t' : Tile} → HalvedTimes rule leaves s n t u → HalvedBy rule leaves s u t' → HalvedTimes rule leaves s (suc n) t t'
+
 -- ---- solve
 
 -- the checks of rounds on records that are there and sound: an entry of workspace for each cell, and a rule that reaches top
 abbrev pub RoundsChecked : Shape → (entries greatest : ℕ) → (Refusal → Type 0) → Type 0 → Type 0
 RoundsChecked s entries greatest Left Rest = Checked 7 FewEntries (cells s ≤ entries) Left (Checked 8 Ceiling (s.top ≤ greatest) Left Rest)
 
--- a level of this shape is answered, for which the tile is sound
-pub record Levelled (s : Shape) (answer : Result Level Refusal) (t' : Tile) : Type 0 where
-  pub answered : Level
-  pub answers : answer ≡ Ok answered
+-- The tile t was solved: by the rounds due it became t', each done by the maker that was handed over; the low ends of t' are the
+-- lowest cheapest grid of the survey that t holds, and every bracket is its height. Flows and ranks are free within what the maker
+-- may leave in the last round.
+pub record Solved (rule : Rule) (leaves : Shape → Tile → Tile → Type 0) (s : Shape) (t : Tile) (answered : Level) (t' : Tile) : Type 0 where
   pub shape : answered.shape ≡ s
+  pub due : RoundsDue s.top answered.done
+  pub rounds : HalvedTimes rule leaves s answered.done t t'
+  pub lowest_cheapest : LowestCheapestGrid (problem rule s (survey t)) (heights t')
+  pub settled : (u : ℕ) → u < cells s → (cell t' u).high ≡ heights t' u
   pub sound : Sound s answered.done t'
 
--- solve, whatever led to the draft: its checks are those of begin and of rounds, and then it answers a level
-abbrev pub SolveDoes : Rule → Draft → Tile → (entries : ℕ) → Result Level Refusal → Tile → Type 0
-SolveDoes rule d t entries answer t' = TileChecked d.shape 0 t (RefusedAs t answer t') (RoundsChecked d.shape entries rule.greatest (RefusedAs t answer t') (Levelled d.shape answer t'))
+-- solve, whatever led to the draft: its checks are those of begin and of rounds; a refusal gives the draft back
+abbrev pub SolveDoes : Rule → (Shape → Tile → Tile → Type 0) → Draft → Tile → (entries : ℕ) → Result Level (Refused Draft) → Tile → Type 0
+SolveDoes rule leaves d t entries answer t' =
+    TileChecked d.shape 0 t (LeavesAll d t answer t') (RoundsChecked d.shape entries rule.greatest (LeavesAll d t answer t') (IsOkAnd answer (λ l. Solved rule leaves d.shape t l t')))
 
--- The low ends of the tile t are the lowest cheapest grid of the survey y, and a finished run of that survey led to the level that
--- is answered and to the records r.
-pub record Solved (rule : Rule) (s : Shape) (y : Survey) (answer : Result Level Refusal) (t r : Tile) : Type 0 where
-  pub answered : Level
-  pub answers : answer ≡ Ok answered
-  pub lowest_cheapest : LowestCheapestGrid (problem rule s y) (heights t)
+-- a finished run of the survey y led to this level and to the records r
+pub record FinishedRun (rule : Rule) (s : Shape) (y : Survey) (answered : Level) (r : Tile) : Type 0 where
   pub history : History
   pub same_survey : surveyed history ≡ y
   pub finished : Finished history
   pub run : Run rule s history (level answered) r
 
--- the checks of solve on the records of a run, which are never corrupt
-abbrev pub SolveChecked : Shape → Tile → (entries greatest : ℕ) → (Refusal → Type 0) → Type 0 → Type 0
-SolveChecked s t entries greatest Left Rest = Checked 2 FewRecords (cells s ≤ length t) Left (RoundsChecked s entries greatest Left Rest)
-
--- every run that led to the draft, and lends its records to solve, is solved
-abbrev pub SolvesRuns : Rule → Draft → Tile → (entries : ℕ) → Result Level Refusal → Tile → Type 0
+-- Every run that led to the draft, and lends its records to solve, goes on to a finished run of the same survey. Its records are never
+-- corrupt.
+abbrev pub SolvesRuns : Rule → Draft → Tile → (entries : ℕ) → Result Level (Refused Draft) → Tile → Type 0
 SolvesRuns rule d t entries answer t' = (s : Shape) (h : History) (r r' : Tile) → Run rule s h (draft d) r → Lent (cells s) r t t' r' →
-    SolveChecked s t entries rule.greatest (RefusedAs t answer t') (Solved rule s (surveyed h) answer t' r')
+    Checked 2 FewRecords (cells s ≤ length t) (LeavesAll d t answer t')
+    (RoundsChecked s entries rule.greatest (LeavesAll d t answer t') (IsOkAnd answer (λ l. FinishedRun rule s (surveyed h) l r')))
 
 -- ---- the steps of solve
+
+-- there is a record for each cell, and all are sound after so many rounds
+pub record Fit (s : Shape) (done : ℕ) (t : Tile) : Type 0 where
+  pub whole : cells s ≤ length t
+  pub sound : Sound s done t
+
+-- and entries and rule suffice for rounds
+pub record Ready (rule : Rule) (s : Shape) (done : ℕ) (t : Tile) (entries : ℕ) : Type 0 where
+  pub fit : Fit s done t
+  pub room : cells s ≤ entries
+  pub reach : s.top ≤ rule.greatest
 
 -- a run of the survey y led to the state x and the records r
 pub record Led (rule : Rule) (s : Shape) (y : Survey) (x : State) (r : Tile) : Type 0 where
@@ -71,45 +89,50 @@ pub record Led (rule : Rule) (s : Shape) (y : Survey) (x : State) (r : Tile) : T
 abbrev pub Onward : Rule → Shape → State → Tile → State → Tile → Type 0
 Onward rule s x t x' t' = (h : History) → Run rule s h x (take (cells s) t) → Led rule s (surveyed h) x' (take (cells s) t')
 
--- from the state x and the tile t: a state with so many rounds done is answered, for which the tile t' is sound
-pub record RoundedTo (rule : Rule) (s : Shape) (x : State) (t : Tile) (done : ℕ) (answer : Result Rounding Refusal) (t' : Tile) : Type 0 where
-  pub answered : Rounding
-  pub answers : answer ≡ Ok answered
-  pub shape : answered.shape ≡ s
-  pub done_now : answered.done ≡ done
-  pub sound : Sound s done t'
-  pub onward : Onward rule s x t (rounding answered) t'
+-- begin
+pub record Opened (d : Draft) (t : Tile) (x : Rounding) : Type 0 where
+  pub shape : x.shape ≡ d.shape
+  pub done : x.done ≡ 0
+  pub onward : (rule : Rule) → Onward rule d.shape (draft d) t (rounding x) t
 
--- begin, which writes nothing
-abbrev pub BeginsRounds : Draft → Tile → Result Rounding Refusal → Type 0
-BeginsRounds d t answer = TileChecked d.shape 0 t (λ e. answer ≡ Err e) ((rule : Rule) → RoundedTo rule d.shape (draft d) t 0 answer t)
+-- one round is left, and can be done
+pub record RoundReady (rule : Rule) (x : Rounding) (t : Tile) (entries : ℕ) : Type 0 where
+  pub ready : Ready rule x.shape x.done t entries
+  pub left : RoundLeft x.shape.top x.done
 
--- one round
-abbrev pub RoundsOnce : Rule → Rounding → Tile → (entries : ℕ) → Result Rounding Refusal → Tile → Type 0
-RoundsOnce rule x t entries answer t' = RoundChecked x.shape x.done t entries rule.greatest (RefusedAs t answer t') (RoundedTo rule x.shape (rounding x) t (x.done + 1) answer t')
+-- and is done
+pub record RoundDone (rule : Rule) (leaves : Shape → Tile → Tile → Type 0) (x : Rounding) (t : Tile) (x' : Rounding) (t' : Tile) : Type 0 where
+  pub shape : x'.shape ≡ x.shape
+  pub done : x'.done ≡ x.done + 1
+  pub halved : HalvedBy rule leaves x.shape t t'
+  pub sound : Sound x.shape (x.done + 1) t'
+  pub onward : Onward rule x.shape (rounding x) t (rounding x') t'
 
--- no round is done, so many are due, and the records are there and sound
-pub record RoundsAhead (x : Rounding) (t : Tile) (due : ℕ) : Type 0 where
+-- none is done yet, and so many are due
+pub record RoundsReady (rule : Rule) (x : Rounding) (t : Tile) (due entries : ℕ) : Type 0 where
   pub none_done : x.done ≡ 0
   pub is_due : RoundsDue x.shape.top due
-  pub whole : cells x.shape ≤ length t
-  pub sound : Sound x.shape 0 t
+  pub ready : Ready rule x.shape 0 t entries
 
--- the rounds due
-abbrev pub RoundsAll : Rule → Rounding → Tile → (due entries : ℕ) → Result Rounding Refusal → Tile → Type 0
-RoundsAll rule x t due entries answer t' = RoundsChecked x.shape entries rule.greatest (RefusedAs t answer t') (RoundedTo rule x.shape (rounding x) t due answer t')
+-- so many are done
+pub record RoundsDone (rule : Rule) (leaves : Shape → Tile → Tile → Type 0) (x : Rounding) (t : Tile) (n : ℕ) (x' : Rounding) (t' : Tile) : Type 0 where
+  pub shape : x'.shape ≡ x.shape
+  pub done : x'.done ≡ n
+  pub halved : HalvedTimes rule leaves x.shape n t t'
+  pub sound : Sound x.shape n t'
+  pub onward : Onward rule x.shape (rounding x) t (rounding x') t'
 
--- the rounds are over, and the records are there and sound
+-- the rounds are over
 pub record RoundsBehind (x : Rounding) (t : Tile) : Type 0 where
   pub over : RoundsOver x.shape.top x.done
-  pub whole : cells x.shape ≤ length t
-  pub sound : Sound x.shape x.done t
+  pub fit : Fit x.shape x.done t
 
--- every run of this shape that led to the state x, and has the first records of the tile t, is solved
-abbrev pub SolvedFrom : Rule → Shape → State → Tile → Result Level Refusal → Tile → Type 0
-SolvedFrom rule s x t answer t' = (h : History) → Run rule s h x (take (cells s) t) → Solved rule s (surveyed h) answer t' (take (cells s) t')
+-- finish
+pub record Closed (x : Rounding) (t : Tile) (answered : Level) : Type 0 where
+  pub shape : answered.shape ≡ x.shape
+  pub done : answered.done ≡ x.done
+  pub onward : (rule : Rule) (h : History) → Run rule x.shape h (rounding x) (take (cells x.shape) t) → FinishedRun rule x.shape (surveyed h) answered (take (cells x.shape) t)
 
--- finish once the rounds are over, which writes nothing
-pub record FinishesRounds (x : Rounding) (t : Tile) (answer : Result Level Refusal) : Type 0 where
-  pub levelled : Levelled x.shape answer t
-  pub solved : (rule : Rule) → Lawful rule → SolvedFrom rule x.shape (rounding x) t answer t
+-- every run that led to the draft, and has the first records of the tile t, ends finished
+abbrev pub EndsRuns : Rule → Draft → Tile → Level → Tile → Type 0
+EndsRuns rule d t answered t' = (h : History) → Run rule d.shape h (draft d) (take (cells d.shape) t) → FinishedRun rule d.shape (surveyed h) answered (take (cells d.shape) t')

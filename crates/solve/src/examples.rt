@@ -1,8 +1,7 @@
 // The definitions by examples in numbers.
-ghost use Rattle.solve.specs.Examples.{SamplesAreRead, SolvingIsRead};
+ghost use Rattle.solve.specs.Examples.{SolvingIsRead};
 
-// What samples are, and what solving a tile of one cell answers and leaves.
+// What solving a tile of one cell answers and leaves.
 pub fn examples()
-    ensures samples { SamplesAreRead }
     ensures solving { SolvingIsRead }
 {}

@@ -19,6 +19,8 @@ shapes = record {
     same_top = refl;
   };
   made_otherwise = λ m. omega (arith, m.same_rows);
+  refused_out_of_range = λ r. omega (arith, r.few_rows);
+  not_refused_in_range = λ no. no (record { some_rows = omega arith; few_rows = omega arith; some_columns = omega arith; few_columns = omega arith; some_top = omega arith; low_top = omega arith });
 }
 
 pub ties_read : TiesAreRead
@@ -33,6 +35,7 @@ records = record {
   same_brackets = refl;
   other_brackets = refl;
   settled_brackets = refl;
+  spoilt_brackets = refl;
   past_the_last_record = refl;
   surveyed_reading = refl;
   surveyed_tie = refl;
@@ -42,10 +45,10 @@ pub energies : EnergiesOfTiles
 unfolding energy
 energies = record {
   energy_of_three_and_seven = refl;
-  rated = record { whole = record { records = omega arith; heights = omega arith }; value = refl };
+  rated = record { whole = omega arith; value = refl };
   rated_otherwise = λ r. omega (arith, r.value);
-  too_few_heights = record { short = λ w. omega (arith, w.heights); because = refl; numbered = refl };
-  too_few_records = record { short = λ w. omega (arith, w.records); because = refl; numbered = refl };
+  too_few_records = omega arith;
+  enough_records = λ l. omega (arith, l);
 }
 
 pub halvings : Halvings

@@ -2,7 +2,6 @@
 use Rattle.std.specs.Prelude.{◌≡◌, false, true, [], ◌∷◌, Some, None, Ok, Err, pos, neg_ℤ}
 use Rattle.std.proofs.Common.{lit≤}
 use Rattle.limits.specs.Limits.{most_rows, most_strip_rows}
-use Rattle.limits.specs.declared.refusal.Refusal.TheVariants.{FewRecords}
 use Rattle.price.specs.Kinds.{squared}
 use Rattle.theory.specs.Grids.{energy}
 use Rattle.tile.specs.declared.cell.Cell.{Cell}
@@ -10,9 +9,9 @@ use Rattle.tile.specs.declared.shape.Shape.{Shape}
 use Rattle.tile.specs.declared.side.Side.TheVariants.{Rightward, Downward}
 use Rattle.tile.specs.Records.{stored_tie, stored_flow, stored_bracket, share_bracket}
 use Rattle.tile.specs.Ties.{neighbour_within, ties}
-use Rattle.tile.specs.Tiles.{Tile, blank, cell, survey, problem}
+use Rattle.tile.specs.Tiles.{Tile, blank, cell, survey, heights, problem}
 use Rattle.tile.specs.Shapes.{cells, Ranged, Made}
-use Rattle.tile.specs.Rating.{height, Rated}
+use Rattle.tile.specs.Rating.{Rated}
 use Rattle.tile.specs.Halving.{from_to, half_toward, halving, RoundsOver, RoundLeft, RoundsDue, Holds, Disjoint}
 
 -- ---- shapes: two rows of two cells with heights 0 and 1, and a row of two with heights up to 10
@@ -31,6 +30,8 @@ pub record ShapesAreRead : Type 0 where
   pub no_top_0 : Ranged most_rows 64 64 0 → ⊥
   pub made_as_asked : Made 2 2 1 (Ok two_by_two)
   pub made_otherwise : Made 2 2 1 (Ok two_in_a_row) → ⊥
+  pub refused_out_of_range : Made 65 2 1 (Err (record {}))
+  pub not_refused_in_range : Made 2 2 1 (Err (record {})) → ⊥
 
 -- cells 0 and 1 above cells 2 and 3
 pub record TiesAreRead : Type 0 where
@@ -53,6 +54,10 @@ second = record { reading = 10; class = 1; right = 0; down = 0; right_flow = pos
 abbrev pub settled_at_seven : Cell
 settled_at_seven = record { reading = 10; class = 1; right = 0; down = 0; right_flow = pos 0; down_flow = pos 0; low = 7; high = 7; charge = pos 0; mark = 1; rank = 0 }
 
+-- a record whose bracket is spoilt: no height lies in it
+abbrev pub spoilt : Cell
+spoilt = record first { low = 1; high = 0 }
+
 abbrev pub pair : Tile
 pair = first ∷ second ∷ []
 
@@ -64,17 +69,22 @@ pub record RecordsAreRead : Type 0 where
   pub same_brackets : share_bracket first second ≡ true
   pub other_brackets : share_bracket first settled_at_seven ≡ false
   pub settled_brackets : share_bracket settled_at_seven settled_at_seven ≡ false
+  pub spoilt_brackets : share_bracket spoilt spoilt ≡ true
   pub past_the_last_record : cell pair 2 ≡ blank
   pub surveyed_reading : (survey pair).reading 1 ≡ 10
   pub surveyed_tie : (survey pair).tie 0 Rightward ≡ 6
 
+-- the pair with the low ends 3 and 7
+abbrev pub halved : Tile
+halved = record first { low = 3 } ∷ record second { low = 7 } ∷ []
+
 -- 9 + 9 + 6 · 4, and four records are wanted for two by two
 pub record EnergiesOfTiles : Type 0 where
-  pub energy_of_three_and_seven : energy (problem (squared 10) two_in_a_row (survey pair)) (height (3 ∷ 7 ∷ [])) ≡ 42
-  pub rated : Rated (squared 10) two_in_a_row pair (3 ∷ 7 ∷ []) (Ok 42)
-  pub rated_otherwise : Rated (squared 10) two_in_a_row pair (3 ∷ 7 ∷ []) (Ok 41) → ⊥
-  pub too_few_heights : Rated (squared 10) two_in_a_row pair (3 ∷ []) (Err FewRecords)
-  pub too_few_records : Rated (squared 10) two_by_two pair (0 ∷ 0 ∷ 0 ∷ 0 ∷ []) (Err FewRecords)
+  pub energy_of_three_and_seven : energy (problem (squared 10) two_in_a_row (survey halved)) (heights halved) ≡ 42
+  pub rated : Rated (squared 10) two_in_a_row halved (Some 42)
+  pub rated_otherwise : Rated (squared 10) two_in_a_row halved (Some 41) → ⊥
+  pub too_few_records : Rated (squared 10) two_by_two halved None
+  pub enough_records : Rated (squared 10) two_in_a_row halved None → ⊥
 
 -- ---- halving 0..10 toward 3 and toward 7
 

@@ -24,6 +24,6 @@ abbrev pub recharged : ℤ → Cell → Cell
 recharged z c =
     record { reading = c.reading; class = c.class; right = c.right; down = c.down; right_flow = pos 0; down_flow = pos 0; low = c.low; high = c.high; charge = z; mark = 0; rank = 0 }
 
--- the two cells have the same bracket, and it is not settled
+-- the two cells have the same bracket, and its low end differs from its high end
 abbrev pub share_bracket : Cell → Cell → Bool
 share_bracket a b = (a.low == b.low && a.high == b.high) && not (a.low == a.high)

@@ -1,10 +1,8 @@
 -- Shapes, and what making one answers.
 use Rattle.std.specs.Prelude.{◌≡◌, ℕ, ◌*◌, ◌≤◌, Result, MatchResult}
 use Rattle.limits.specs.Limits.{most_rows, most_strip_rows, most_columns, most_top}
-use Rattle.limits.specs.Refusals.{number}
-use Rattle.limits.specs.declared.refusal.Refusal.{Refusal}
-use Rattle.limits.specs.declared.refusal.Refusal.TheVariants.{Range}
 use Rattle.tile.specs.declared.shape.Shape.{Shape}
+use Rattle.tile.specs.declared.shape.error.ShapeError.{ShapeError}
 
 -- how many cells a shape has; they are numbered row by row, from 0
 abbrev pub cells : Shape → ℕ
@@ -26,20 +24,14 @@ pub record MadeOf (most rows columns top : ℕ) (s : Shape) : Type 0 where
   pub same_columns : s.columns ≡ columns
   pub same_top : s.top ≡ top
 
--- the refusal of rows, columns or a top out of bounds; its number is 1
-pub record NotMade (most rows columns top : ℕ) (e : Refusal) : Type 0 where
-  pub outside : Ranged most rows columns top → ⊥
-  pub because : e ≡ Range
-  pub numbered : number e ≡ 1
-
--- a shape of at most so many rows: made where its rows, columns and top are in bounds, else refused
-abbrev pub MadeWithin : ℕ → ℕ → ℕ → ℕ → Result Shape Refusal → Type 0
-MadeWithin most rows columns top r = MatchResult r (MadeOf most rows columns top) (NotMade most rows columns top)
+-- a shape of at most so many rows: made where its rows, columns and top are in bounds, and refused exactly where they are not
+abbrev pub MadeWithin : ℕ → ℕ → ℕ → ℕ → Result Shape ShapeError → Type 0
+MadeWithin most rows columns top r = MatchResult r (MadeOf most rows columns top) (λ _. Ranged most rows columns top → ⊥)
 
 -- the shape of a tile
-abbrev pub Made : ℕ → ℕ → ℕ → Result Shape Refusal → Type 0
+abbrev pub Made : ℕ → ℕ → ℕ → Result Shape ShapeError → Type 0
 Made = MadeWithin most_rows
 
 -- the shape of a strip of tiles, which may have more rows
-abbrev pub MadeStrip : ℕ → ℕ → ℕ → Result Shape Refusal → Type 0
+abbrev pub MadeStrip : ℕ → ℕ → ℕ → Result Shape ShapeError → Type 0
 MadeStrip = MadeWithin most_strip_rows

@@ -1,7 +1,7 @@
 -- Tiles, what they survey, and the problem that a survey poses under a price rule.
 use Rattle.std.specs.Prelude.{ℕ, List, pos, slice_index_or}
 use Rattle.price.specs.Rules.{Rule, priced}
-use Rattle.theory.specs.Grids.{Problem}
+use Rattle.theory.specs.Grids.{Heights, Problem}
 use Rattle.tile.specs.declared.cell.Cell.{Cell}
 use Rattle.tile.specs.declared.shape.Shape.{Shape}
 use Rattle.tile.specs.declared.side.Side.{Side}
@@ -30,6 +30,10 @@ pub record Survey : Type 0 where
 -- the survey that the records hold
 abbrev pub survey : Tile → Survey
 survey t = record { reading = λ u. (cell t u).reading; class = λ u. (cell t u).class; tie = λ u d. stored_tie (cell t u) d }
+
+-- the heights that the records hold: the low end of each cell
+abbrev pub heights : Tile → Heights
+heights t u = (cell t u).low
 
 -- heights up to the shape's top, priced by the rule, over the shape's ties
 abbrev pub problem : Rule → Shape → Survey → Problem Tie

@@ -1,10 +1,9 @@
-// The records of a tile, its shape and ties, brackets of heights, and the energy of a grid of heights.
+// The records of a tile, its shape and ties, brackets of heights, and the energy of the heights that records hold.
 #![tactic(auto)]
 
 pub mod bracket;
 pub mod cell;
 pub mod examples;
-pub mod grid;
 pub mod rating;
 pub mod shape;
 pub mod side;
@@ -13,7 +12,7 @@ mod tests;
 
 pub use bracket::Bracket;
 pub use cell::Cell;
-pub use grid::{HeightGrid, HeightList};
 pub use rating::energy;
 pub use shape::Shape;
+pub use shape::error::ShapeError;
 pub use side::Side;

@@ -1,11 +1,13 @@
 // The shape of a tile: how many rows and columns it has, and its greatest height.
 pub mod cells;
+pub mod error;
 pub mod making;
 
 ghost use Rattle.std.specs.Prelude.{◌≤◌};
 ghost use Rattle.limits.specs.Limits.{most_columns, most_strip_rows, most_top};
 
-#[derive(Clone, Copy)]
+/// How many rows and columns a tile has, and its greatest height.
+#[derive(Clone, Copy, PartialEq, Eq, Debug)]
 pub struct Shape {
     rows: usize,
     columns: usize,

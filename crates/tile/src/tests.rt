@@ -1,8 +1,8 @@
 use crate::bracket::{Bracket, halving, rounds_due};
 use crate::cell::Cell;
-use crate::grid::HeightList;
 use crate::rating::energy;
 use crate::shape::Shape;
+use crate::shape::error::ShapeError;
 use limits::Refusal;
 use price::Squared;
 use std::test::Fail;
@@ -36,42 +36,45 @@ fn from_to((low, high): (u16, u16)) -> Bracket {
     Bracket { low, high }
 }
 
-// A cell of class 1, tied to the right.
-fn cell(reading: u16, right: u16) -> Cell {
+// A cell of class 1, tied to the right, with a low end.
+fn cell(reading: u16, right: u16, low: u16) -> Cell {
     Cell {
         reading,
         class: 1,
         right,
+        low,
         high: 10,
         ..Cell::default()
     }
 }
 
-// The energy of two heights over the readings 0 and 10.
-fn energy_of(tie: u16, heights: &[u16]) -> Result<u64, Refusal> {
-    let rule = Squared::new(10)?;
-    let shape = Shape::new(1, 2, 10)?;
-    energy(
-        &rule,
-        shape,
-        &[cell(0, tie), cell(10, 0)],
-        &HeightList { list: heights },
-    )
-}
-
 #[test]
 fn energies(rt: HostRuntime) -> Result<(), Fail> {
-    assert_eq!(rt; energy_of(6, &[3, 7])?, 42);
-    assert_eq!(rt; energy_of(7, &[3, 6])?, 46);
+    let rule = Squared::new(10)?;
+    let shape = Shape::new(1, 2, 10)?;
+    let tile = [cell(0, 6, 3), cell(10, 0, 7)];
+    assert_eq!(rt; energy(&rule, shape, &tile), Some(42));
+    assert_eq!(rt; energy(&rule, shape, &tile[..1]), None);
     Ok(())
 }
 
 #[test]
-fn short_lists(rt: HostRuntime) -> Result<(), Fail> {
-    let rule = Squared::new(10)?;
-    let shape = Shape::new(1, 2, 10)?;
-    let short = energy(&rule, shape, &[cell(0, 6)], &HeightList { list: &[3, 7] });
-    assert_eq!(rt; short.err().ok_or("rated")?.number(), 2);
-    assert_eq!(rt; energy_of(6, &[3]).err().ok_or("rated")?.number(), 2);
+fn shapes(rt: HostRuntime) -> Result<(), Fail> {
+    assert_eq!(rt; Shape::new(64, 64, 1023)?.cells(), 4096);
+    assert_eq!(rt; Shape::new(65, 64, 1023), Err(ShapeError));
+    assert_eq!(rt; Refusal::from(ShapeError), Refusal::Range);
     Ok(())
+}
+
+#[test]
+fn a_spoilt_bracket_is_live(rt: HostRuntime) {
+    let spoilt = Cell {
+        low: 1,
+        high: 0,
+        ..Cell::default()
+    };
+    let settled = Cell { high: 1, ..spoilt };
+    assert_eq!(rt; spoilt.shares_bracket(&spoilt), true);
+    assert_eq!(rt; settled.shares_bracket(&settled), false);
+    assert_ne!(rt; spoilt, settled);
 }

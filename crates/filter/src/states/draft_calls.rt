@@ -1,7 +1,7 @@
 // The calls that make and fill a draft.
 ghost use Rattle.std.specs.Prelude.{◌≡◌};
 ghost use Rattle.passes.specs.Writing.{weights};
-ghost use Rattle.filter.specs.Checks.{place};
+ghost use Rattle.filter.specs.Checks.{place, TileChecked};
 ghost use Rattle.filter.specs.Calls.{StartDoes, PutDoes, TieDoes, BeginDoes};
 ghost use Rattle.filter.specs.Runs.{draft, rounding, put_at, tied_at, begun, Begins, GoesOn};
 ghost use Rattle.filter.specs.Laws.{EveryRunKeepsTheLaw};
@@ -13,7 +13,7 @@ use limits::Refusal;
 use passes::{clear, write_reading, write_ties};
 use tile::{Cell, Shape};
 
-// Makes the records a new draft: every bracket 0..top, and all else 0.
+/// Makes the records a new draft: every bracket 0..top, and all else 0.
 pub fn start(rows: usize, columns: usize, top: u16, tile: &mut [Cell]) -> Result<Draft, Refusal>
     ensures does { StartDoes rows columns top tile.old result tile.new }
     ensures begins { Begins result tile.new }
@@ -39,28 +39,35 @@ fn no_round_done(draft: Draft) -> Rounding
 }
 
 impl Draft {
-    // How many rows the tile has.
+    /// How many rows the tile has.
     pub fn rows(&self) -> usize
         ensures { result ≡ self.now.shape.rows }
     {
         self.shape.rows()
     }
 
-    // How many columns the tile has.
+    /// How many columns the tile has.
     pub fn columns(&self) -> usize
         ensures { result ≡ self.now.shape.columns }
     {
         self.shape.columns()
     }
 
-    // The greatest height of the tile.
+    /// The greatest height of the tile.
     pub fn top(&self) -> u16
         ensures { result ≡ self.now.shape.top }
     {
         self.shape.top()
     }
 
-    // Writes one cell's reading and class.
+    /// Is there a sound record for each cell? Every call on a draft checks this first.
+    pub fn check(&self, tile: &[Cell]) -> Result<(), Refusal>
+        ensures { TileChecked self.now.shape 0 tile.now (λ e. result ≡ Err e) (result ≡ Ok tt) }
+    {
+        check_tile(self.shape, 0, tile)
+    }
+
+    /// Writes one cell's reading and class.
     pub fn put(
         self,
         tile: &mut [Cell],
@@ -82,7 +89,7 @@ impl Draft {
         }
     }
 
-    // Writes one cell's ties to its neighbours on the right and below.
+    /// Writes one cell's ties to its neighbours on the right and below.
     pub fn tie(
         self,
         tile: &mut [Cell],
@@ -104,7 +111,7 @@ impl Draft {
         }
     }
 
-    // Closes the draft, so that rounds can be done. Writes nothing.
+    /// Closes the draft, so that rounds can be done. Writes nothing.
     pub fn begin(self, tile: &[Cell]) -> Result<Rounding, Refused<Draft>>
         ensures does { BeginDoes self tile.now result }
         ensures goes_on { GoesOn (draft self) tile.now draft rounding begun result tile.now }

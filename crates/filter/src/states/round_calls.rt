@@ -55,8 +55,29 @@ fn one_more(rounding: Rounding) -> Rounded
 }
 
 impl Rounding {
-    // Does one round under a price rule, by a cut maker with its workspace, and answers the rounds done. After an accepted
-    // round the workspace is free, and flows and ranks are free within what the maker may leave.
+    /// How many rows the tile has.
+    pub fn rows(&self) -> usize
+        ensures { result ≡ self.now.shape.rows }
+    {
+        self.shape.rows()
+    }
+
+    /// How many columns the tile has.
+    pub fn columns(&self) -> usize
+        ensures { result ≡ self.now.shape.columns }
+    {
+        self.shape.columns()
+    }
+
+    /// The greatest height of the tile.
+    pub fn top(&self) -> u16
+        ensures { result ≡ self.now.shape.top }
+    {
+        self.shape.top()
+    }
+
+    /// Does one round under a price rule, by a cut maker with its workspace, and answers the rounds done. After an accepted
+    /// round the workspace is free, and flows and ranks are free within what the maker may leave.
     pub fn round<P: PriceRule, M: CutMaker>(
         self,
         tile: &mut [Cell],
@@ -79,7 +100,7 @@ impl Rounding {
         Ok(one_more(self))
     }
 
-    // Ends the rounds, once those due are done. Writes nothing.
+    /// Ends the rounds, once those due are done. Writes nothing.
     pub fn finish(self, tile: &[Cell]) -> Result<Level, Refused<Rounding>>
         ensures does { FinishDoes self tile.now result }
         ensures goes_on { GoesOn (rounding self) tile.now rounding level finished result tile.now }
@@ -94,7 +115,7 @@ impl Rounding {
         })
     }
 
-    // Gives the rounds up: keeps readings, classes and ties, and resets the rest as start does.
+    /// Gives the rounds up: keeps readings, classes and ties, and resets the rest as start does.
     pub fn reopen(self, tile: &mut [Cell]) -> Result<Draft, Refused<Rounding>>
         ensures does { ReopenDoes self self.shape self.done tile.old result tile.new }
         ensures goes_on { GoesOn (rounding self) tile.old rounding draft reopened result tile.new }

@@ -1,5 +1,5 @@
-use Rattle.flow.proofs.ByNumbers.{networks, tiles, points, cuts}
+use Rattle.flow.proofs.ByNumbers.{networks, tiles, points}
 use Rattle.flow.proofs.examples.examples.Goals as goal
 
 pub returns : goal.returns
-returns c = record { networks = networks; tiles = tiles; points = points; cuts = cuts }
+returns c = record { networks = networks; tiles = tiles; points = points }

@@ -11,7 +11,7 @@ pub returns-in_err-shape : goal.returns-in_err-shape
 returns-in_err-shape c =
     let p = err_from_is_err_and c.from_residual.result c.from_residual.ensures.1 in
     let k = c.in_err-shape.ensures in
-    start_met c.args.rows c.args.columns c.args.top c.args.tile.now c.from_residual.result _ (refused k.outside refl (p.1 ∙ ap Err (p.2 ∙ k.because), refl))
+    start_met c.args.rows c.args.columns c.args.top c.args.tile.now c.from_residual.result _ (refused k refl (p.1 ∙ ap Err p.2, refl))
 
 pub returns-then-not-is_whole : goal.returns-then-not-is_whole
 returns-then-not-is_whole c =

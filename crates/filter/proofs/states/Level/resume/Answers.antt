@@ -1,6 +1,0 @@
-use Rattle.std.proofs.Common.{Ok, ap}
-use Rattle.filter.proofs.Numbers.{itself_level}
-use Rattle.filter.proofs.states.Level.resume.Goals as goal
-
-pub returns-clause-itself : goal.returns-clause-itself
-returns-clause-itself c = λ x n. ap Ok (itself_level _ c.args.rows c.args.columns c.args.top c.in_ok-shape.ensures x n)

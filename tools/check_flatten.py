@@ -101,7 +101,7 @@ def check_files(checks):
 
 def check_arguments(checks):
     checks.check("--help", ["--help"], b"", 0, parts=[
-        "lowest cheapest grid", "Usage: flatten [OPTIONS]", "--records <N>", "[default: 1024]", "--cut <MAKER>",
+        "lowest cheapest grid", "Usage: ", " [OPTIONS]", "--records <N>", "[default: 1024]", "--cut <MAKER>",
         "[possible values: paths, push]", "--strict", "Status: 0"])
     for argument, arguments, complained in [
         ("a value that is no number", ["--records", "x"], "error: invalid value 'x' for '--records <N>'"),

@@ -1,5 +1,5 @@
 use crate::running::run;
-use std::alloc::{Allocator, Global};
+use std::alloc::{AllocError, Allocator, Global};
 use std::cell::Cell;
 use std::env::FillError;
 use std::fmt::Display;
@@ -16,16 +16,16 @@ static TWO_CELLS: [u8; 29] = [
 
 // A runtime with arguments and a standard input of its own, which keeps what is printed.
 #[derive(Drop)]
-struct Fake {
+struct Fake<'a> {
     alloc: Global,
     arguments: &'static [&'static [u8]],
-    input: &'static [u8],
+    input: &'a [u8],
     printed: Cell<Option<String>>,
     complained: Cell<Option<String>>,
 }
 
-impl Fake {
-    fn new(rt: &HostRuntime, arguments: &'static [&'static [u8]], input: &'static [u8]) -> Fake {
+impl<'a> Fake<'a> {
+    fn new(rt: &HostRuntime, arguments: &'static [&'static [u8]], input: &'a [u8]) -> Fake<'a> {
         Fake {
             alloc: rt.alloc(),
             arguments,
@@ -50,7 +50,7 @@ impl Fake {
     }
 }
 
-impl Alloc for Fake {
+impl Alloc for Fake<'_> {
     type A = Global;
 
     fn alloc(&self) -> Global {
@@ -58,7 +58,7 @@ impl Alloc for Fake {
     }
 }
 
-impl Print for Fake {
+impl Print for Fake<'_> {
     fn print<D: Display + Drop>(&self, value: D) -> io::Result<()> {
         self.append(&self.printed, value, "")
     }
@@ -72,7 +72,7 @@ impl Print for Fake {
     }
 }
 
-impl Eprint for Fake {
+impl Eprint for Fake<'_> {
     fn eprint<D: Display + Drop>(&self, value: D) -> io::Result<()> {
         self.append(&self.complained, value, "")
     }
@@ -82,23 +82,23 @@ impl Eprint for Fake {
     }
 }
 
-impl Input for Fake {
-    type Reader = &'static [u8];
+impl<'a> Input for Fake<'a> {
+    type Reader = &'a [u8];
 
     fn read_line<A: Allocator + Clone>(&self, _buf: &mut String<A>) -> io::Result<usize> {
         Err(io::Error::from(io::ErrorKind::Unsupported))
     }
 
-    fn lines<A: Allocator>(&self, alloc: A) -> Lines<&'static [u8], A> {
+    fn lines<A: Allocator>(&self, alloc: A) -> Lines<&'a [u8], A> {
         self.input.lines(alloc)
     }
 
-    fn reader(&self) -> &'static [u8] {
+    fn reader(&self) -> &'a [u8] {
         self.input
     }
 }
 
-impl Env for Fake {
+impl Env for Fake<'_> {
     fn arg(&self, i: usize, buf: &mut [u8]) -> Result<usize, FillError> {
         let Some(argument) = self.arguments.get(i) else {
             return Err(FillError::NotPresent);
@@ -127,8 +127,12 @@ struct Outcome {
     complained: String,
 }
 
-fn ended_on(rt: &HostRuntime, arguments: &'static [&'static [u8]]) -> Result<Outcome, Fail> {
-    let fake = Fake::new(rt, arguments, &TWO_CELLS);
+fn ended_on(
+    rt: &HostRuntime,
+    arguments: &'static [&'static [u8]],
+    input: &[u8],
+) -> Result<Outcome, Fail> {
+    let fake = Fake::new(rt, arguments, input);
     let status = run(&fake)?;
     let none = String::new(rt.alloc());
     Ok(Outcome {
@@ -160,10 +164,42 @@ fn answers(rt: HostRuntime) -> Result<(), Fail> {
             "refused 14 2 5 2\n",
         ),
     ] {
-        let outcome = ended_on(&rt, arguments)?;
+        let outcome = ended_on(&rt, arguments, &TWO_CELLS)?;
         assert_eq!(rt; outcome.status, status);
         assert_eq!(rt; outcome.printed.as_str(), printed);
         assert_eq!(rt; outcome.complained.as_str(), "");
+    }
+    Ok(())
+}
+
+static NAME: [&[u8]; 1] = [b"flatten"];
+
+// The file of so many rows of one cell each, with top 1, the letter A, readings of 0 and no ties.
+fn flat_column(alloc: Global, rows: u8) -> Result<Vec<u8>, AllocError> {
+    let mut file = Vec::new(alloc);
+    file.extend_from_slice(&[0, 1, b'A', 0, 3, 0, rows, 0, 1, 0, 1, 0, rows])?;
+    for _ in 0..rows {
+        file.extend_from_slice(&[0, 0, 1])?;
+    }
+    file.extend_from_slice(&[0, rows])?;
+    for _ in 0..rows {
+        file.extend_from_slice(&[0, 0, 0, 0])?;
+    }
+    Ok(file)
+}
+
+// There is memory enough for a tile of any number of rows.
+#[test]
+fn each_number_of_rows(rt: HostRuntime) -> Result<(), Fail> {
+    for rows in 1..=64 {
+        let file = flat_column(rt.alloc(), rows)?;
+        let outcome = ended_on(&rt, NAME.as_slice(), &file)?;
+        let heading = format!(in rt.alloc(); "{rows} 1 1 1 0\n0\n")?;
+        assert_eq!(rt; outcome.status, ExitCode::SUCCESS);
+        assert!(rt;
+            outcome.printed.as_str().starts_with(heading.as_str()),
+            "at {rows} rows"
+        );
     }
     Ok(())
 }
@@ -172,7 +208,7 @@ static HELP: [&[u8]; 2] = [b"flatten", b"--help"];
 
 #[test]
 fn help(rt: HostRuntime) -> Result<(), Fail> {
-    let outcome = ended_on(&rt, HELP.as_slice())?;
+    let outcome = ended_on(&rt, HELP.as_slice(), &[])?;
     assert_eq!(rt; outcome.status, ExitCode::SUCCESS);
     assert_eq!(rt; outcome.complained.as_str(), "");
     for part in [
@@ -220,7 +256,7 @@ fn arguments_not_understood(rt: HostRuntime) -> Result<(), Fail> {
         ),
         (NO_TEXT.as_slice(), "error: an argument is no text"),
     ] {
-        let outcome = ended_on(&rt, arguments)?;
+        let outcome = ended_on(&rt, arguments, &TWO_CELLS)?;
         assert_eq!(rt; outcome.status, ExitCode::from(2));
         assert_eq!(rt; outcome.printed.as_str(), "");
         assert!(rt;

@@ -29,7 +29,7 @@ returns c =
       makers = makers;
       understood = understood;
       asked = subst (λ (r : List Row). Asked (one_of (codes "records") r) (first_of (codes "cut") r) (one_of (codes "strict") r) c.of.result) rows
-      (rw (one_text-rows (found_of m) (codes "records"), first_value-rows (found_of m) (codes "cut"), one_text-rows (found_of m) (codes "strict")) at c.of.ensures);
+          (rw (one_text-rows (found_of m) (codes "records"), first_value-rows (found_of m) (codes "cut"), one_text-rows (found_of m) (codes "strict")) at c.of.ensures);
     }
 
 pub returns-in_err-matches : goal.returns-in_err-matches

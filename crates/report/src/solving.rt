@@ -66,8 +66,8 @@ fn solve_contents<P: PriceRule, M: CutMaker>(
     requires records { cells contents.now.shape ≤ length tile.old }
     requires room { cells contents.now.shape ≤ length entries.old }
     requires reach { (P.PriceRule.rule rule.now).greatest ≡ contents.now.shape.top }
-    ensures solved { SolvedAs (P.PriceRule.rule rule.now) contents.now.shape (contents_survey contents.now) tile.new result }
     ensures records { RecordsSolved (P.PriceRule.rule rule.now) (M.CutMaker.leaves maker.now) contents.now.shape (contents_survey contents.now) result.rounds tile.old tile.new }
+    ensures solved { SolvedAs (P.PriceRule.rule rule.now) contents.now.shape (contents_survey contents.now) tile.new result }
     ensures kept { PastKept (cells contents.now.shape) tile.old tile.new }
 {
     let draft = contents.fill(tile).unwrap();
@@ -85,8 +85,8 @@ pub(crate) fn solve_by_letter<M: CutMaker>(
 ) -> Solution
     requires records { cells contents.now.shape ≤ length tile.old }
     requires room { cells contents.now.shape ≤ length entries.old }
-    ensures solved { SolvedAs (letter_rule contents.now.letter contents.now.shape.top) contents.now.shape (contents_survey contents.now) tile.new result }
     ensures records { RecordsSolved (letter_rule contents.now.letter contents.now.shape.top) (M.CutMaker.leaves maker.now) contents.now.shape (contents_survey contents.now) result.rounds tile.old tile.new }
+    ensures solved { SolvedAs (letter_rule contents.now.letter contents.now.shape.top) contents.now.shape (contents_survey contents.now) tile.new result }
     ensures kept { PastKept (cells contents.now.shape) tile.old tile.new }
 {
     let rule = LetterRule::new(contents.letter(), contents.shape().top()).unwrap();

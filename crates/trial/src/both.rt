@@ -24,8 +24,8 @@ fn check(shape: Shape, tile: &[Cell], entries: usize) -> Result<(), Uncut>
     Ok(())
 }
 
-// Cuts two copies of a tile, one by each maker. Checks the first copy before the second, and cuts none unless both may be cut. On
-// equal copies the two makers mark the same cells.
+/// Cuts two copies of a tile, one by each maker. Checks the first copy before the second, and cuts none unless both may be cut. On
+/// equal copies the two makers mark the same cells.
 pub fn cut_both(
     shape: Shape,
     first: &mut [Cell],

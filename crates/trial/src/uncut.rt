@@ -1,12 +1,13 @@
-// Why a tile is not cut.
+// What the trial answers where a tile is not cut.
 use std::error::Error;
 use std::fmt;
 
+/// Why a tile is not cut.
 #[derive(Clone, Copy, PartialEq, Eq, Debug)]
 pub enum Uncut {
-    // It is no tile that a cut maker may be given.
+    /// It is no tile that a cut maker may be given.
     Unfit,
-    // There are fewer entries of workspace than the tile has cells.
+    /// There are fewer entries of workspace than the tile has cells.
     FewEntries,
 }
 

@@ -50,8 +50,9 @@ Seconds time_of(const std::function<void()> &work) {
 bool rounds_agree(const Scene &scene, std::vector<Charged> &problems) {
     Rounds rounds(scene);
     Tile by_push(Maker::push_relabel, scene.cells()), by_paths(Maker::augmenting_paths, scene.cells());
-    by_push.begin(scene);
-    by_paths.begin(scene);
+    const auto file = tile_file(scene);
+    by_push.begin(scene, file);
+    by_paths.begin(scene, file);
     bool agree = true;
     for (int round = 0; round < rounds.due(); ++round) {
         problems.push_back(rounds.charged());
@@ -63,7 +64,6 @@ bool rounds_agree(const Scene &scene, std::vector<Charged> &problems) {
             agree = agree && tile->marks() == marks && tile->low() == rounds.low() && tile->high() == rounds.high();
         }
     }
-    const auto file = tile_file(scene);
     for (Tile *tile : {&by_push, &by_paths})
         agree = agree && tile->solve(file) == rounds.energy() && tile->low() == rounds.low();
     return agree;

@@ -1,4 +1,4 @@
-# Sourced by the scripts beside it: installs Debian's packages where they are wanted, and builds the C library and programs.
+# Sourced by the scripts beside it: installs Debian's packages where they are wanted, and builds the libraries and programs.
 
 # want FILE PACKAGE: the package, unless the file is there
 want() {
@@ -19,17 +19,19 @@ built=$(mktemp -d)
 trap 'rm -rf "$built"' EXIT
 trap 'exit 1' HUP INT TERM
 
-# The library is proved before it is built.
-build_library() {
-    (cd crates/host && rt lib) >"$built/said" 2>&1 || {
-        tail -n 20 "$built/said" >&2
-        exit 1
-    }
+# The libraries are proved before they are built: the one that hosts get, and that of single rounds and cuts.
+build_libraries() {
+    for crate in host bench_host; do
+        (cd "crates/$crate" && rt lib) >"$built/said" 2>&1 || {
+            tail -n 20 "$built/said" >&2
+            exit 1
+        }
+    done
 }
 
 # build PROGRAM SOURCE..
 build() {
     program=$1
     shift
-    c++ -std=c++17 -O2 -DNDEBUG -Iinclude "$@" crates/host/out/libhost.a -o "$built/$program"
+    c++ -std=c++17 -O2 -DNDEBUG -Iinclude "$@" crates/host/out/libhost.a crates/bench_host/out/libbench_host.a -o "$built/$program"
 }

@@ -5,9 +5,9 @@
 
 namespace {
 
-void expect_done(const char *call, std::uint8_t number) {
-    if (number == 0) return;
-    std::fprintf(stderr, "%s: refused %d\n", call, number);
+void expect_done(const char *call, std::int32_t answer) {
+    if (answer == 0) return;
+    std::fprintf(stderr, "%s: refused %d\n", call, static_cast<int>(answer));
     std::exit(2);
 }
 
@@ -18,34 +18,32 @@ Tile::Tile(Maker maker, int cells) : maker_(maker), records_(cells), entries_(ce
 long long Tile::solve(const std::vector<std::uint8_t> &file) {
     yolanthuk_solution solution;
     yolanthuk_fault fault;
-    const std::uint8_t number =
+    const std::int32_t answer =
         maker_ == Maker::push_relabel
             ? yolanthuk_solve_file(file.data(), file.size(), records_.data(), records_.size(), entries_.data(), entries_.size(),
                                    heights_.data(), heights_.size(), &solution, &fault)
             : yolanthuk_solve_file_by_paths(file.data(), file.size(), records_.data(), records_.size(), heights_.data(),
                                             heights_.size(), &solution, &fault);
-    expect_done("solve", number);
+    expect_done("solve", answer);
     return static_cast<long long>(solution.energy);
 }
 
-void Tile::begin(const Scene &scene) {
-    yolanthuk_draft draft;
+void Tile::begin(const Scene &scene, const std::vector<std::uint8_t> &file) {
+    rows_ = scene.rows;
+    columns_ = scene.columns;
+    top_ = static_cast<std::uint16_t>(scene.top);
     letter_ = static_cast<std::uint8_t>(scene.letter);
-    expect_done("start", yolanthuk_start(scene.rows, scene.columns, scene.top, records_.data(), records_.size(), &draft));
-    for (int cell = 0; cell < scene.cells(); ++cell) {
-        const int row = cell / scene.columns, column = cell % scene.columns;
-        expect_done("put", yolanthuk_put(draft, records_.data(), records_.size(), row, column, scene.reading[cell], scene.trust[cell]));
-        expect_done("tie", yolanthuk_tie(draft, records_.data(), records_.size(), row, column, scene.right[cell], scene.down[cell]));
-    }
-    expect_done("begin", yolanthuk_begin(draft, records_.data(), records_.size(), &rounding_));
+    done_ = 0;
+    expect_done("read", bench_read(file.data(), file.size(), records_.data(), records_.size()));
 }
 
 void Tile::round() {
-    const std::uint8_t number =
+    const std::int32_t answer =
         maker_ == Maker::push_relabel
-            ? yolanthuk_round(&rounding_, letter_, records_.data(), records_.size(), entries_.data(), entries_.size())
-            : yolanthuk_round_by_paths(&rounding_, letter_, records_.data(), records_.size());
-    expect_done("round", number);
+            ? bench_round(rows_, columns_, top_, done_, letter_, records_.data(), records_.size(), entries_.data(), entries_.size())
+            : bench_round_by_paths(rows_, columns_, top_, done_, letter_, records_.data(), records_.size());
+    expect_done("round", answer);
+    ++done_;
 }
 
 void Tile::lay(const Charged &charged) {
@@ -63,10 +61,10 @@ void Tile::lay(const Charged &charged) {
 }
 
 void Tile::cut() {
-    const std::uint8_t number = maker_ == Maker::push_relabel
-                                    ? yolanthuk_cut(rows_, columns_, records_.data(), records_.size(), entries_.data(), entries_.size())
-                                    : yolanthuk_cut_by_paths(rows_, columns_, records_.data(), records_.size());
-    expect_done("cut", number);
+    const std::int32_t answer = maker_ == Maker::push_relabel
+                                    ? bench_cut(rows_, columns_, records_.data(), records_.size(), entries_.data(), entries_.size())
+                                    : bench_cut_by_paths(rows_, columns_, records_.data(), records_.size());
+    expect_done("cut", answer);
 }
 
 Marks Tile::marks() const {

@@ -1,10 +1,10 @@
-// The library's side, by its C interface: memory for records, workspace and heights, and the calls on it.
+// The library's side, by its C interface and by the calls of bench_host.h: memory for records, workspace and heights, and the calls on it.
 #pragma once
 
 #include "peer.hpp"
 #include "scenes.hpp"
 
-#include "yolanthuk.h"
+#include "bench_host.h"
 
 #include <cstdint>
 #include <vector>
@@ -19,8 +19,8 @@ class Tile {
     // Solves a tile file; answers the energy, and the low ends are the heights.
     long long solve(const std::vector<std::uint8_t> &file);
 
-    // The same by single calls: a draft is filled with a scene, and then comes one round after the other.
-    void begin(const Scene &scene);
+    // The same round by round: a scene's file is read as a draft, and then comes one round after the other.
+    void begin(const Scene &scene, const std::vector<std::uint8_t> &file);
     void round();
 
     // Lays a charged tile into the records; cuts what was laid.
@@ -35,7 +35,7 @@ class Tile {
     Maker maker_;
     std::vector<yolanthuk_cell> records_;
     std::vector<std::uint16_t> entries_, heights_;
-    yolanthuk_rounding rounding_{};
-    std::uint8_t letter_ = 0;
     std::size_t rows_ = 0, columns_ = 0;
+    std::uint16_t top_ = 0;
+    std::uint8_t done_ = 0, letter_ = 0;
 };

@@ -1,5 +1,6 @@
 #!/bin/sh
-# Prints which part of a terrain solve by push-relabel is not in its cuts: the reader and the passes of each round, by a profiler (docs/SPEED.md).
+# Prints which part of reading a terrain tile and doing its rounds by push-relabel is not in the cuts: the reader and the passes of each round, by a
+# profiler (docs/SPEED.md).
 #
 #     bench/passes.sh [TIMES]
 set -eu
@@ -9,7 +10,7 @@ cd "$(dirname "$0")/.."
 want /usr/bin/perf linux-perf
 want /usr/bin/c++ g++
 install_wanted
-build_library
+build_libraries
 build loop bench/scenes.cpp bench/library.cpp bench/loop.cpp
 for scene in 0 1 2 3 4 5 6 7 8; do
     name=$(perf record -q -e cpu-clock -o "$built/data" "$built/loop" "$scene" "${1:-200}")

@@ -11,6 +11,6 @@ cd "$(dirname "$0")/.."
 want /usr/include/boost/graph/boykov_kolmogorov_max_flow.hpp libboost-graph-dev
 want /usr/bin/c++ g++
 install_wanted
-build_library
+build_libraries
 build bench bench/scenes.cpp bench/peer.cpp bench/library.cpp bench/bench.cpp
 "$built/bench" "$@"

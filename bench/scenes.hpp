@@ -16,8 +16,8 @@ struct Scene {
     int cells() const { return rows * columns; }
 };
 
-// A tile that is charged, so that one cut can be made of it. A tie is live where both its ends have the same bracket, with more
-// than one height.
+// A tile that is charged, so that one cut can be made of it. A tie is live where both its ends have the same bracket, whose low and
+// high end differ.
 struct Charged {
     int rows, columns, top;
     std::vector<int> charge, low, high, right, down;

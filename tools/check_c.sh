@@ -37,6 +37,19 @@ compare() {
     say "$name" $?
 }
 
+# Runs a program and compares its exit status: what is checked, the status, and the program with its arguments.
+ends_with() {
+    name=$1
+    wanted=$2
+    shift 2
+    "$@" >"$made/printed" 2>"$made/said"
+    [ $? -eq "$wanted" ] || {
+        cat "$made/printed" "$made/said"
+        false
+    }
+    say "$name" $?
+}
+
 # Builds the library, with some more flags.
 build() {
     # shellcheck disable=SC2086 # flags, parted by spaces
@@ -46,9 +59,9 @@ build() {
     }
 }
 
-# Builds both programs with some more flags, and runs them.
+# Builds the programs with some more flags, and runs them.
 run_all() {
-    for program in solve_file steps; do
+    for program in solve_file shape records; do
         # shellcheck disable=SC2086 # flags, parted by spaces
         "$cc" -std=c11 $strict $1 "samples/c/$program.c" "$library" -o "$made/$program" || return 1
     done
@@ -60,7 +73,18 @@ run_all() {
     printf '\000\001\130' >"$made/letter.tile"
     echo "refused 13 1 2 0" >"$made/letter.txt"
     compare "a file of another letter$2" "$made/letter.tile" "$made/letter.txt" "$made/solve_file"
-    compare "the calls one by one$2" /dev/null samples/c/steps.txt "$made/steps"
+    ends_with "an argument that is no number of records$2" 2 "$made/solve_file" --records 40x </dev/null
+    ends_with "an unknown cut maker$2" 2 "$made/solve_file" --cut knife </dev/null
+    ends_with "a folder in place of a file$2" 1 "$made/solve_file" </
+    ends_with "input without end$2" 0 "$made/solve_file" </dev/zero
+    echo "1 x 2 cells, the highest in row 0 and column 1: 7 of 10" >"$made/shape.txt"
+    compare "memory for just one tile$2" samples/two_cells.tile "$made/shape.txt" "$made/shape"
+    ends_with "memory for no tile$2" 3 "$made/shape" <"$made/letter.tile"
+    # The heights that are wanted, from the independent script.
+    "$made/records" --file >"$made/records.tile"
+    wanted=$(tools/reference_flatten.py <"$made/records.tile" | tail -n +2)
+    # shellcheck disable=SC2086 # heights, parted by spaces
+    ends_with "every field of every record$2" 0 "$made/records" $wanted
     tools/fuzz_flatten.py "$made/solve_file" --files 500 >"$made/fuzzed"
     say "500 files, good and bad$2" $?
 }
@@ -73,29 +97,25 @@ build ""
 run_all "-O2" ""
 say "programs in C" $?
 
+# Each name of the header is in the library, and the library exports no other.
+grep -oE '\byolanthuk_[a-z_]+\(' include/yolanthuk.h | tr -d '(' | sort -u >"$made/declared"
+nm "$library" | awk '$2 == "T" { print $3 }' | sort -u >"$made/exported"
+cmp -s "$made/declared" "$made/exported" || diff "$made/declared" "$made/exported"
+say "the names of the header are those of the library" $?
+
 # The header in C++.
 cat >"$made/header.cc" <<'EOF'
 #include "yolanthuk.h"
 #include "yolanthuk.h"
 int main() {
-    yolanthuk_cell tile[1] = {};
-    yolanthuk_draft draft = {};
-    return yolanthuk_start(1, 1, 1, tile, 1, &draft);
+    yolanthuk_shape shape = {};
+    yolanthuk_fault fault = {};
+    return yolanthuk_file_shape(nullptr, 0, &shape, &fault) == YOLANTHUK_TRUNCATED ? 0 : 1;
 }
 EOF
 # shellcheck disable=SC2086
 "$cxx" -std=c++11 $strict "$made/header.cc" "$library" -o "$made/header" && "$made/header"
 say "the header in C++" $?
-
-# A call that the state does not allow does not compile.
-cat >"$made/late.c" <<'EOF'
-#include "yolanthuk.h"
-uint8_t late_put(yolanthuk_rounding rounding, yolanthuk_cell *tile);
-uint8_t late_put(yolanthuk_rounding rounding, yolanthuk_cell *tile) { return yolanthuk_put(rounding, tile, 1, 0, 0, 0, 0); }
-EOF
-# shellcheck disable=SC2086
-! "$cc" -std=c11 $strict -fsyntax-only "$made/late.c" 2>"$made/said" && grep -q "yolanthuk_draft" "$made/said"
-say "a put after begin is stopped by the compiler" $?
 
 # What the library wants of the C library.
 nm -u "$library" | awk 'NF == 2 && $1 == "U" { print $2 }' | sort -u >"$made/wanted"

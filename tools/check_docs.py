@@ -6,8 +6,9 @@ usage: tools/check_docs.py
 Of README.md and docs/*.md: that files and links exist, that the rows of a table have as many columns as its head, and that names of
 code exist (in the sources and specs of the crates, the header for C, or bench/). Of the tables of docs/PROOF.md: that each definition
 stands in the file of specs/ that its row names, in the crate of the section or the one that is named with it. The documents that
-speak of earlier names (below) are checked for files alone.
-Prints a line for each thing that is not there, and ends with status 1 if there is one.
+speak of earlier names (below) are checked for files alone. The example in Rust of README.md has to stand in crates/cases/src/readme.rt, which is
+proved and run.
+Prints a line for each thing that is not there, and ends with status 1 if there is one; else says that all is there.
 """
 import pathlib
 import re
@@ -15,7 +16,7 @@ import sys
 
 TOP = pathlib.Path(__file__).resolve().parent.parent
 CRATES = TOP / "crates"
-EARLIER = {"CHANGES.md", "DESIGN-PASS.md", "PORT.md"}
+EARLIER = {"CHANGES.md"}
 
 # A file by its folder at the top; a star stands for any name.
 FILE = re.compile(r"(?:docs|tools|samples|crates|bench|include)/[\w./*-]*[\w*]")
@@ -94,9 +95,21 @@ def check(place, words):
             yield what
 
 
+def lost_examples():
+    run = (CRATES / "cases/src/readme.rt").read_text()
+    for block in re.findall(r"^```rust\n(.*?)^```", (TOP / "README.md").read_text(), re.M | re.S):
+        if block not in run:
+            what = "the example in Rust is not the one in crates/cases/src/readme.rt"
+            print(f"README.md: {what}")
+            yield what
+
+
 def main():
     words = code()
     lost = [what for place in [TOP / "README.md", *sorted(TOP.glob("docs/*.md"))] for what in check(place, words)]
+    lost += lost_examples()
+    if not lost:
+        print("all that the documents cite is there")
     return 1 if lost else 0
 
 

@@ -13,7 +13,7 @@ trap 'rm -f "$printed"' EXIT
 trap 'exit 1' HUP INT TERM
 
 if [ ! -x "$program" ]; then
-    echo "there is no program $program" >&2
+    echo "there is no program $program: rt run in crates/flatten builds crates/flatten/out/flatten" >&2
     exit 1
 fi
 

@@ -10,6 +10,7 @@ The exit status is 1 where a text differs, or a run ends with another status tha
 """
 import argparse
 import random
+import shutil
 import subprocess
 import sys
 from collections import Counter
@@ -271,6 +272,8 @@ def main():
     parser.add_argument("--files", type=int, default=5000)
     parser.add_argument("--seed", type=int, default=1)
     asked = parser.parse_args()
+    if shutil.which(asked.program) is None:
+        sys.exit(f"there is no program {asked.program}: `rt run` in crates/flatten builds crates/flatten/out/flatten")
 
     rng = random.Random(asked.seed)
     print(f"reference: agrees with all grids on {check_reference(rng)} tiny tiles", flush=True)

@@ -1,3 +1,4 @@
 pub mod EveryGrid
 pub mod Decided
 pub mod Worked
+pub mod OneCell

@@ -39,5 +39,6 @@ abbrev pub height : List ℕ → Heights
 height hs u = slice_index hs u
 
 -- the expected heights are the lowest cheapest grid, and the expected energy is theirs
-abbrev pub RightCase : Case → Type 0
-RightCase c = LowestCheapestGrid (posed c) (height c.heights) × (energy (posed c) (height c.heights) ≡ c.energy)
+pub record RightCase (c : Case) : Type 0 where
+  pub lowest_cheapest : LowestCheapestGrid (posed c) (height c.heights)
+  pub energy_of_it : energy (posed c) (height c.heights) ≡ c.energy

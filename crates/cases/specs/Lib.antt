@@ -1,2 +1,4 @@
 pub mod Cases
 pub mod Worked
+pub mod Outside
+pub mod OneCell

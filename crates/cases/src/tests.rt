@@ -1,100 +1,12 @@
-use crate::running::{JUNK, accepted, check_tile, number_of, tied};
+use crate::one_cell::finish_one_cell;
+use crate::running::{JUNK, accepted, number_of};
 use cut::{AugmentingPaths, PushRelabel, Step};
 use filter::{Draft, Rounding, start};
 use price::{Absolute, Leaning, Squared};
-use solve::{Sample, finish_one_cell, solve};
+use solve::solve;
 use std::process::Abort;
 use std::test::Fail;
 use tile::Cell;
-
-#[test]
-fn single_cells(rt: HostRuntime) -> Result<(), Fail> {
-    let rule = Absolute::new(7)?;
-    check_tile(&rt, &rule, 1, 1, 7, &[tied(5, 0)], &[5], 0)?;
-    let nothing = Sample {
-        reading: 5,
-        class: 0,
-        right: 0,
-        down: 0,
-    };
-    check_tile(&rt, &rule, 1, 1, 7, &[nothing], &[0], 0)
-}
-
-#[test]
-fn rows_of_three(rt: HostRuntime) -> Result<(), Fail> {
-    let rule = Absolute::new(7)?;
-    let both = [tied(0, 1), tied(7, 1), tied(0, 0)];
-    check_tile(&rt, &rule, 1, 3, 7, &both, &[0, 0, 0], 7)?;
-    let one = [tied(0, 1), tied(7, 0), tied(0, 0)];
-    check_tile(&rt, &rule, 1, 3, 7, &one, &[0, 0, 0], 7)
-}
-
-#[test]
-fn rows_of_two(rt: HostRuntime) -> Result<(), Fail> {
-    let squared = Squared::new(10)?;
-    check_tile(
-        &rt,
-        &squared,
-        1,
-        2,
-        10,
-        &[tied(0, 6), tied(10, 0)],
-        &[3, 7],
-        42,
-    )?;
-    check_tile(
-        &rt,
-        &squared,
-        1,
-        2,
-        10,
-        &[tied(0, 7), tied(10, 0)],
-        &[3, 6],
-        46,
-    )
-}
-
-#[test]
-fn pairs_that_fall_or_rise(rt: HostRuntime) -> Result<(), Fail> {
-    let heavy = Sample {
-        reading: 10,
-        class: 2,
-        right: 4,
-        down: 0,
-    };
-    let fall = [heavy, tied(2, 0)];
-    check_tile(&rt, &Leaning::new(10)?, 1, 2, 10, &fall, &[2, 2], 24)?;
-    check_tile(&rt, &Absolute::new(10)?, 1, 2, 10, &fall, &[10, 10], 8)?;
-    let alike = [tied(10, 2), tied(2, 0)];
-    check_tile(&rt, &Absolute::new(10)?, 1, 2, 10, &alike, &[2, 2], 8)
-}
-
-// Two rows of two cells with all ties 1, of which the first cell reads 1.
-fn corner(class: u8) -> [Sample; 4] {
-    [
-        Sample {
-            reading: 1,
-            class,
-            right: 1,
-            down: 1,
-        },
-        Sample {
-            reading: 0,
-            class: 1,
-            right: 0,
-            down: 1,
-        },
-        tied(0, 1),
-        tied(0, 0),
-    ]
-}
-
-#[test]
-fn squares(rt: HostRuntime) -> Result<(), Fail> {
-    let rule = Absolute::new(1)?;
-    check_tile(&rt, &rule, 2, 2, 1, &corner(1), &[0, 0, 0, 0], 1)?;
-    check_tile(&rt, &rule, 2, 2, 1, &corner(2), &[1, 0, 0, 0], 2)
-}
 
 // The draft of the tile 0 10 with tie 6, whose cells are of class 1.
 fn two_in_a_row(tile: &mut [Cell]) -> Result<Draft, Fail> {
@@ -206,7 +118,7 @@ fn refusals_of_rounds(rt: HostRuntime) -> Result<(), Fail> {
     );
     assert_eq!(rt; number_of(first_rounds(&mut tile)?.finish(&tile)), Some(10));
     let draft = two_in_a_row(&mut tile)?;
-    let level = solve(draft, &mut tile, &wide, &PushRelabel, &mut [0; 2])?;
+    let level = accepted(solve(draft, &mut tile, &wide, &PushRelabel, &mut [0; 2]))?;
     assert_eq!(rt; number_of(level.height(&tile, 0, 2)), Some(4));
     assert_eq!(rt; number_of(level.cost(&tile, &low)), Some(8));
     tile[0].high = 4;
@@ -219,13 +131,8 @@ fn refusals_of_rounds(rt: HostRuntime) -> Result<(), Fail> {
 fn empty_bracket_is_corrupt(rt: HostRuntime) -> Result<(), Fail> {
     let mut tile = [JUNK; 1];
     let draft = start(1, 1, 4, &mut tile)?;
-    let level = solve(
-        draft,
-        &mut tile,
-        &Absolute::new(4)?,
-        &PushRelabel,
-        &mut [0; 1],
-    )?;
+    let rule = Absolute::new(4)?;
+    let level = accepted(solve(draft, &mut tile, &rule, &PushRelabel, &mut [0; 1]))?;
     assert_eq!(rt; level.height(&tile, 0, 0)?, 0);
     tile[0].low = 5;
     tile[0].high = 4;

@@ -23,9 +23,6 @@ level_ranked t v r = record { long = length-set _ _ _; same = set_field unranked
 pub level_marked : (t : Tile) (v m : ℕ) → SameFlows t (marked_at t v m)
 level_marked t v m = record { long = length-set _ _ _; same = set_field unranked t v (with_mark m (cell t v)) refl }
 
-pub rank_marked : (t : Tile) (v m b : ℕ) → rank_of (marked_at t v m) b ≡ rank_of t b
-rank_marked t v m b = set_field (λ (c : Cell). c.rank) t v (with_mark m (cell t v)) refl b
-
 room_forth_level : (t t' : Tile) → SameFlows t t' → (c : ℕ) (d : Side) (a : ℕ) → room_forth t' c d a ≡ room_forth t c d a
 room_forth_level t t' p c d a =
     let x = live_still t t' (level_still t t' p) a (a + offset c d) in

@@ -119,18 +119,17 @@ module _ {X : Type 0} (spot : X → ℕ) (came : X → Option Direction) where
   inside_more n q q' e (Ok _) p l a = subst (All (λ x. spot x < n)) (sym p.last) (All-push (λ x. spot x < n) (waits q) e a l)
   inside_more n q q' e (Err _) p l a = subst (λ (k : Queue X). All (λ x. spot x < n) (waits k)) (sym p.unchanged.1) a
 
-  pub goes_none : (e : X) (h : Direction) (f : Flows) (r : Queue X) → (BackTo f.columns f.tile.now (spot e) (came e) → pos 0 <ℤ room f.tile.now f.columns h (spot e) → 0 < rank_of f.tile.now (beside f.columns h (spot e))) → Goes spot came e h f f r r
-  goes_none e h f r d = record { level = leveled_self f; rooms = refl; inside = λ a. a; search = λ k. visited_none f.columns (spot e) h (came e) f.tile.now r k (d k.back_to) }
+  pub goes_none : (u : ℕ) (from : Option Direction) (h : Direction) (f : Flows) (r : Queue X) → (BackTo f.columns f.tile.now u from → pos 0 <ℤ room f.tile.now f.columns h u → 0 < rank_of f.tile.now (beside f.columns h u)) → Goes spot came u from h f f r r
+  goes_none u from h f r d = record { level = leveled_self f; rooms = refl; inside = λ a. a; search = λ k. visited_none f.columns u h from f.tile.now r k (d k.back_to) }
 
-  pub goes_put : (e : X) (h : Direction) (f f' : Flows) (r r' : Queue X) (s : X) (u v n : ℕ) (b : Result ⊤ X) → u ≡ spot e → Fresh f.columns f.tile.now u h v → SameRows f f' → n ≡ rank_of f.tile.now u - 1 → f'.tile.now ≡ ranked_at f.tile.now v n → Enqueued r r' s b → spot s ≡ v → ((h' : Direction) → came s ≡ Some h' → h' ≡ opposite h) → Goes spot came e h f f' r r'
-  goes_put e h f f' r r' s u v n b ue w rows ne te p se sf =
-      let w' : Fresh f.columns f.tile.now (spot e) h v = subst (λ (x : ℕ). Fresh f.columns f.tile.now x h v) ue w in
-      let te' : f'.tile.now ≡ ranked_at f.tile.now v (rank_of f.tile.now (spot e) - 1) = te ∙ ap (ranked_at f.tile.now v) (ne ∙ ap (λ (x : ℕ). rank_of f.tile.now x - 1) ue) in
+  pub goes_put : (u : ℕ) (from : Option Direction) (h : Direction) (f f' : Flows) (r r' : Queue X) (s : X) (v n : ℕ) (b : Result ⊤ X) → Fresh f.columns f.tile.now u h v → SameRows f f' → n ≡ rank_of f.tile.now u - 1 → f'.tile.now ≡ ranked_at f.tile.now v n → Enqueued r r' s b → spot s ≡ v → ((h' : Direction) → came s ≡ Some h' → h' ≡ opposite h) → Goes spot came u from h f f' r r'
+  goes_put u from h f f' r r' s v n b w rows ne te p se sf =
+      let te' : f'.tile.now ≡ ranked_at f.tile.now v (rank_of f.tile.now u - 1) = te ∙ ap (ranked_at f.tile.now v) ne in
       record {
-        level = record { rows = rows; holds = subst (SameFlows f.tile.now) (sym te') (level_ranked f.tile.now v (rank_of f.tile.now (spot e) - 1)) };
+        level = record { rows = rows; holds = subst (SameFlows f.tile.now) (sym te') (level_ranked f.tile.now v (rank_of f.tile.now u - 1)) };
         rooms = p.room;
         inside = inside_more (length f.tile.now) r r' s b p (subst (λ (x : ℕ). x < length f.tile.now) (sym se) w.inside);
-        search = λ k. visited_put f.columns (spot e) h (came e) f.tile.now f'.tile.now r r' s v b k w' te' p se sf;
+        search = λ k. visited_put f.columns u h from f.tile.now f'.tile.now r r' s v b k w te' p se sf;
       }
 
   not_fresh : (c : ℕ) (t : Tile) (u : ℕ) (h : Direction) → u < length t → pos 0 <ℤ room t c h u → (Fresh c t u h (beside c h u) → ⊥) → 0 < rank_of t (beside c h u)
@@ -171,32 +170,32 @@ module _ {X : Type 0} (spot : X → ℕ) (came : X → Option Direction) where
   }
 
   -- the same over the records that flows borrow
-  pub record Going (e : X) (n : ℕ) (f f' : Flows) (r r' : Queue X) : Type 0 where
+  pub record Going (u : ℕ) (from : Option Direction) (n : ℕ) (f f' : Flows) (r r' : Queue X) : Type 0 where
     pub level : Leveled f f'
     pub rooms : capacity r' ≡ capacity r
     pub inside : AllInside spot f.tile.now r → AllInside spot f.tile.now r'
-    pub search : Looks spot came f.columns (spot e) (came e) f.tile.now r → Gone f.columns (spot e) (came e) n f.tile.now f'.tile.now r r'
+    pub search : Looks spot came f.columns u from f.tile.now r → Gone f.columns u from n f.tile.now f'.tile.now r r'
 
   gone_none : (c u : ℕ) (from : Option Direction) (t : Tile) (r : Queue X) → Looks spot came c u from t r → Gone c u from 0 t t r r
   gone_none c u from t r k = record { looks = k; grows = grows_self t; done = λ k l. absurd (omega arith); load_same = omega arith; olds = λ x a. a; news = λ x p. inl p }
 
-  pub going_none : (e : X) (f : Flows) (r : Queue X) → Going e 0 f f r r
-  going_none e f r = record { level = leveled_self f; rooms = refl; inside = λ a. a; search = λ k. gone_none f.columns (spot e) (came e) f.tile.now r k }
+  pub going_none : (u : ℕ) (from : Option Direction) (f : Flows) (r : Queue X) → Going u from 0 f f r r
+  going_none u from f r = record { level = leveled_self f; rooms = refl; inside = λ a. a; search = λ k. gone_none f.columns u from f.tile.now r k }
 
-  pub going_more : (e : X) (n : ℕ) (f f1 f2 : Flows) (r r1 r2 : Queue X) → Going e n f f1 r r1 → Goes spot came e (get_or ways n Right) f1 f2 r1 r2 → Going e (n + 1) f f2 r r2
-  going_more e n f f1 f2 r r1 r2 g v = record {
+  pub going_more : (u : ℕ) (from : Option Direction) (n : ℕ) (f f1 f2 : Flows) (r r1 r2 : Queue X) → Going u from n f f1 r r1 → Goes spot came u from (get_or ways n Right) f1 f2 r1 r2 → Going u from (n + 1) f f2 r r2
+  going_more u from n f f1 f2 r r1 r2 g v = record {
     level = leveled_trans f f1 f2 g.level v.level;
     rooms = v.rooms ∙ g.rooms;
     inside = λ a. inside_on f.tile.now f1.tile.now r1 r2 g.level.holds v.inside (g.inside a);
     search = λ k.
         let a = g.search k in
         let w = rw g.level.rows.columns at v.search in
-        gone_more f.columns (spot e) (came e) n f.tile.now f1.tile.now f2.tile.now r r1 r2 a v.rooms (w a.looks);
+        gone_more f.columns u from n f.tile.now f1.tile.now f2.tile.now r r1 r2 a v.rooms (w a.looks);
   }
 
   -- a direction in which there was nowhere to go before the first was gone in
-  going_past : (e : X) (n : ℕ) (f f1 : Flows) (r r1 : Queue X) → spot e < length f.tile.now → Going e n f f1 r r1 → (Fresh f.columns f.tile.now (spot e) (get_or ways n Right) (beside f.columns (get_or ways n Right) (spot e)) → ⊥) → Going e (n + 1) f f1 r r1
-  going_past e n f f1 r r1 l g k =
+  going_past : (u : ℕ) (from : Option Direction) (n : ℕ) (f f1 : Flows) (r r1 : Queue X) → u < length f.tile.now → Going u from n f f1 r r1 → (Fresh f.columns f.tile.now u (get_or ways n Right) (beside f.columns (get_or ways n Right) u) → ⊥) → Going u from (n + 1) f f1 r r1
+  going_past u from n f f1 r r1 l g k =
       let h = get_or ways n Right in
       record {
         level = g.level;
@@ -207,7 +206,7 @@ module _ {X : Type 0} (spot : X → ℕ) (came : X → Option Direction) where
             record {
               looks = a.looks;
               grows = a.grows;
-              done = below_more _ _ a.done (spread_grows f.columns f.tile.now f1.tile.now (spot e) a.grows h (λ o. not_fresh f.columns f.tile.now (spot e) h l o k));
+              done = below_more _ _ a.done (spread_grows f.columns f.tile.now f1.tile.now u a.grows h (λ o. not_fresh f.columns f.tile.now u h l o k));
               load_same = a.load_same;
               olds = a.olds;
               news = a.news;
@@ -215,20 +214,18 @@ module _ {X : Type 0} (spot : X → ℕ) (came : X → Option Direction) where
       }
 
   -- the same by a test that was made then
-  pub going_not : (e : X) (n u : ℕ) (f f1 : Flows) (r r1 : Queue X) (w : Bool) → u ≡ spot e → spot e < length f.tile.now → Going e n f f1 r r1 → IsTrue w ↔ Fresh f.columns f.tile.now u (get_or ways n Right) (beside f.columns (get_or ways n Right) u) → w ≡ false →
-      Going e (n + 1) f f1 r r1
-  going_not e n u f f1 r r1 w ue l g k z =
-      let h = get_or ways n Right in
-      going_past e n f f1 r r1 l g (λ a. false≢true (sym z ∙ k.1 (subst (λ (x : ℕ). Fresh f.columns f.tile.now x h (beside f.columns h x)) (sym ue) a)))
+  pub going_not : (u : ℕ) (from : Option Direction) (n : ℕ) (f f1 : Flows) (r r1 : Queue X) (w : Bool) → u < length f.tile.now → Going u from n f f1 r r1 → IsTrue w ↔ Fresh f.columns f.tile.now u (get_or ways n Right) (beside f.columns (get_or ways n Right) u) → w ≡ false →
+      Going u from (n + 1) f f1 r r1
+  going_not u from n f f1 r r1 w l g k z = going_past u from n f f1 r r1 l g (λ a. false≢true (sym z ∙ k.1 a))
 
   -- a direction that is gone in if the test says so
-  pub going_if : (e : X) (n u : ℕ) (f f1 f2 : Flows) (r r1 r2 : Queue X) (w : Bool) → u ≡ spot e → spot e < length f.tile.now → Going e n f f1 r r1 → IsTrue w ↔ Fresh f.columns f.tile.now u (get_or ways n Right) (beside f.columns (get_or ways n Right) u) →
-      GoesIf w spot came e (get_or ways n Right) f1 f2 r1 r2 → Going e (n + 1) f f2 r r2
-  going_if e n u f f1 f2 r r1 r2 true ue l g k v = going_more e n f f1 f2 r r1 r2 g v
-  going_if e n u f f1 f2 r r1 r2 false ue l g k v = rw (v.0, v.1) (going_not e n u f f1 r r1 false ue l g k refl)
+  pub going_if : (u : ℕ) (from : Option Direction) (n : ℕ) (f f1 f2 : Flows) (r r1 r2 : Queue X) (w : Bool) → u < length f.tile.now → Going u from n f f1 r r1 → IsTrue w ↔ Fresh f.columns f.tile.now u (get_or ways n Right) (beside f.columns (get_or ways n Right) u) →
+      GoesIf w spot came u from (get_or ways n Right) f1 f2 r1 r2 → Going u from (n + 1) f f2 r r2
+  going_if u from n f f1 f2 r r1 r2 true l g k v = going_more u from n f f1 f2 r r1 r2 g v
+  going_if u from n f f1 f2 r r1 r2 false l g k v = rw (v.0, v.1) (going_not u from n f f1 r r1 false l g k refl)
 
-  pub going_all : (e : X) (n : ℕ) (f f' : Flows) (r r' : Queue X) → 4 ≤ n → Going e n f f' r r' → GoesOn spot came e f f' r r'
-  going_all e n f f' r r' l g = record { level = g.level; rooms = g.rooms; inside = g.inside; search = λ k. gone_all f.columns (spot e) (came e) n f.tile.now f'.tile.now r r' l (g.search k) }
+  pub going_all : (u : ℕ) (from : Option Direction) (n : ℕ) (f f' : Flows) (r r' : Queue X) → 4 ≤ n → Going u from n f f' r r' → GoesOn spot came u from f f' r r'
+  going_all u from n f f' r r' l g = record { level = g.level; rooms = g.rooms; inside = g.inside; search = λ k. gone_all f.columns u from n f.tile.now f'.tile.now r r' l (g.search k) }
 
   -- a search between two entries
   pub record Turning (f f' : Flows) (r : Queue X) : Type 0 where
@@ -244,14 +241,14 @@ module _ {X : Type 0} (spot : X → ℕ) (came : X → Option Direction) where
   pub turning_looks : (f f1 : Flows) (r r1 : Queue X) (s : X) → Turning f f1 r → Dequeued r r1 (Some s) → Looks spot came f1.columns (spot s) (came s) f1.tile.now r1
   turning_looks f f1 r r1 s k d = seek_looks f1.columns f1.tile.now r r1 s k.search k.rooms k.backs d.first d.room
 
-  pub turning_on : (f f1 f2 : Flows) (r r1 r2 : Queue X) (s : X) → Turning f f1 r → Dequeued r r1 (Some s) → GoesOn spot came s f1 f2 r1 r2 → Turning f f2 r2
+  pub turning_on : (f f1 f2 : Flows) (r r1 r2 : Queue X) (s : X) → Turning f f1 r → Dequeued r r1 (Some s) → GoesOn spot came (spot s) (came s) f1 f2 r1 r2 → Turning f f2 r2
   turning_on f f1 f2 r r1 r2 s k d g =
       let looks = turning_looks f f1 r r1 s k d in
       let v = g.search looks in
       let long = g.level.holds.long in
       record { level = leveled_trans f f1 f2 k.level g.level; search = rw g.level.rows.columns v.keeps; rooms = omega (arith, long, g.rooms, looks.rooms); backs = rw g.level.rows.columns v.backs }
 
-  pub turning_less : (f f1 f2 : Flows) (r r1 r2 : Queue X) (s : X) → Turning f f1 r → Dequeued r r1 (Some s) → GoesOn spot came s f1 f2 r1 r2 → load f2.tile.now (spots spot r2) < load f1.tile.now (spots spot r)
+  pub turning_less : (f f1 f2 : Flows) (r r1 r2 : Queue X) (s : X) → Turning f f1 r → Dequeued r r1 (Some s) → GoesOn spot came (spot s) (came s) f1 f2 r1 r2 → load f2.tile.now (spots spot r2) < load f1.tile.now (spots spot r)
   turning_less f f1 f2 r r1 r2 s k d g = load_pop f1.columns f1.tile.now f2.tile.now r r1 r2 s d.first (g.search (turning_looks f f1 r r1 s k d))
 
   -- one more deficit cell
@@ -368,7 +365,7 @@ module _ {X : Type 0} (spot : X → ℕ) (came : X → Option Direction) where
       let p = (turning_looks f f1 r r1 s k.turning d).search.inside.0.1 in
       λ u l h. k.turning.search.tree u l (omega arith)
 
-  pub seeking_on : (f f1 f2 : Flows) (r r1 r2 : Queue X) (s : X) → Seeking f f1 r → Dequeued r r1 (Some s) → (InSurplus f1.tile.now f1.columns (spot s) → ⊥) → GoesOn spot came s f1 f2 r1 r2 → Seeking f f2 r2
+  pub seeking_on : (f f1 f2 : Flows) (r r1 r2 : Queue X) (s : X) → Seeking f f1 r → Dequeued r r1 (Some s) → (InSurplus f1.tile.now f1.columns (spot s) → ⊥) → GoesOn spot came (spot s) (came s) f1 f2 r1 r2 → Seeking f f2 r2
   seeking_on f f1 f2 r r1 r2 s k d n g =
       let v = g.search (turning_looks f f1 r r1 s k.turning d) in
       record {

@@ -113,24 +113,24 @@ pub record Visits {X : Type 0} (spot : X → ℕ) (came : X → Option Direction
   pub olds : (x : ℕ) → Among x (spots spot q) → Among x (spots spot q')
   pub news : (x : ℕ) → 0 < rank_of t' x → (0 < rank_of t x) ⊎ Among x (spots spot q')
 
--- the search goes over one direction out of the cell of an entry, over the same borrowed records
-pub record Goes {X : Type 0} (spot : X → ℕ) (came : X → Option Direction) (e : X) (h : Direction) (f f' : Flows) (q q' : Queue X) : Type 0 where
+-- the search goes over one direction out of u, which it reached from another, over the same borrowed records
+pub record Goes {X : Type 0} (spot : X → ℕ) (came : X → Option Direction) (u : ℕ) (from : Option Direction) (h : Direction) (f f' : Flows) (q q' : Queue X) : Type 0 where
   pub level : Leveled f f'
   pub rooms : capacity q' ≡ capacity q
   pub inside : AllInside spot f.tile.now q → AllInside spot f.tile.now q'
-  pub search : Looks spot came f.columns (spot e) (came e) f.tile.now q → Visited spot came f.columns (spot e) h f.tile.now f'.tile.now q q'
+  pub search : Looks spot came f.columns u from f.tile.now q → Visited spot came f.columns u h f.tile.now f'.tile.now q q'
 
 -- the same if that is wanted; else nothing changes
-abbrev pub GoesIf : {X : Type 0} → Bool → (X → ℕ) → (X → Option Direction) → X → Direction → Flows → Flows → Queue X → Queue X → Type 0
-GoesIf true spot came e h f f' q q' = Goes spot came e h f f' q q'
-GoesIf false spot came e h f f' q q' = (f' ≡ f) × (q' ≡ q)
+abbrev pub GoesIf : {X : Type 0} → Bool → (X → ℕ) → (X → Option Direction) → ℕ → Option Direction → Direction → Flows → Flows → Queue X → Queue X → Type 0
+GoesIf true spot came u from h f f' q q' = Goes spot came u from h f f' q q'
+GoesIf false spot came u from h f f' q q' = (f' ≡ f) × (q' ≡ q)
 
 -- and over all directions
-pub record GoesOn {X : Type 0} (spot : X → ℕ) (came : X → Option Direction) (e : X) (f f' : Flows) (q q' : Queue X) : Type 0 where
+pub record GoesOn {X : Type 0} (spot : X → ℕ) (came : X → Option Direction) (u : ℕ) (from : Option Direction) (f f' : Flows) (q q' : Queue X) : Type 0 where
   pub level : Leveled f f'
   pub rooms : capacity q' ≡ capacity q
   pub inside : AllInside spot f.tile.now q → AllInside spot f.tile.now q'
-  pub search : Looks spot came f.columns (spot e) (came e) f.tile.now q → Visits spot came f.columns (spot e) f.tile.now f'.tile.now q q'
+  pub search : Looks spot came f.columns u from f.tile.now q → Visits spot came f.columns u f.tile.now f'.tile.now q q'
 
 -- the deficit cells wait, and no other cell has a rank
 pub record Started {X : Type 0} (spot : X → ℕ) (came : X → Option Direction) (c : ℕ) (t : Tile) (q : Queue X) : Type 0 where

@@ -12,7 +12,7 @@ use crate::entry::Step;
 use crate::ranks::put_rank;
 use crate::search::{start_search, visit_all};
 use crate::ways::{before, push_on, put_back, put_onward};
-use flow::Flows;
+use flow::{Direction, Flows};
 use queue::Queue;
 
 // Searches until it fetches a surplus cell.
@@ -22,13 +22,15 @@ fn seek(flows: &mut Flows, queue: &mut Queue<Step>) -> Option<Step>
     ensures sought { Sought flows.new.columns flows.new.tile.now result }
     ensures inside { AllInside (λ (s : Record). s.cell) flows.new.tile.now queue.new }
 {
-    while let Some(step) = queue.dequeue() {
-        if flows.in_surplus(step.cell as usize) {
-            return Some(step);
+    loop {
+        let Some(Step { cell, side }) = queue.dequeue() else {
+            return None;
+        };
+        if flows.in_surplus(cell as usize) {
+            return Some(Step { cell, side });
         }
-        visit_all(flows, queue, step);
+        visit_all(flows, queue, cell as usize, side);
     }
-    None
 }
 
 // Pushes over a path to u, if u is in surplus and a path is open.
@@ -122,14 +124,21 @@ fn push_paths(flows: &mut Flows, u: usize, most: usize) -> usize
     left
 }
 
-// Pushes over all paths to the cell of the step, and goes on with the search from there if it still has a rank.
-fn serve(flows: &mut Flows, queue: &mut Queue<Step>, step: Step, most: usize) -> usize
-    requires { step.cell < length flows.old.tile.now }
+// Pushes over all paths to u, and goes on with the search from there if it still has a rank. Answers how many more dead ends may be
+// met.
+fn serve(
+    flows: &mut Flows,
+    queue: &mut Queue<Step>,
+    u: usize,
+    from: Option<Direction>,
+    most: usize,
+) -> usize
+    requires { u < length flows.old.tile.now }
     ensures { Eases (λ (s : Record). s.cell) flows.old flows.new queue.old queue.new }
 {
-    let left = push_paths(flows, step.cell as usize, most);
-    if flows.tile[step.cell as usize].rank > 0 {
-        visit_all(flows, queue, step);
+    let left = push_paths(flows, u, most);
+    if flows.tile[u].rank > 0 {
+        visit_all(flows, queue, u, from);
     }
     left
 }
@@ -142,15 +151,15 @@ fn go_on(flows: &mut Flows, queue: &mut Queue<Step>, met: Step)
     ensures { InPlace Eased flows.old flows.new }
 {
     let most = patience(flows);
-    let mut left = serve(flows, queue, met, most);
+    let mut left = serve(flows, queue, met.cell as usize, met.side, most);
     for _ in 0..flows.tile.len() {
         if left == 0 {
             return;
         }
-        let Some(step) = queue.dequeue() else {
+        let Some(Step { cell, side }) = queue.dequeue() else {
             return;
         };
-        left = serve(flows, queue, step, left);
+        left = serve(flows, queue, cell as usize, side, left);
     }
 }
 

@@ -4,28 +4,23 @@ ghost use Rattle.flow.specs.declared.direction.Direction.{Direction as Way};
 
 use flow::Direction;
 
+/// What waits in a search.
 pub trait Entry: Copy {
-    // The cell that waits.
+    /// The cell that waits.
     ghost spot: { Self → ℕ };
 
-    // The direction back, where the entry keeps it.
+    /// The direction back, where the entry keeps it.
     ghost came: { Self → Maybe Way };
 
-    // A cell from which the search starts.
+    /// A cell from which the search starts.
     fn root(cell: u16) -> Self
         ensures cell { spot result ≡ cell }
         ensures back { came result ≡ Nothing };
 
-    // A cell that the search has reached.
+    /// A cell that the search has reached.
     fn reached(cell: u16, back: Direction) -> Self
         ensures cell { spot result ≡ cell }
         ensures back { (h : Way) → came result ≡ Just h → h ≡ back };
-
-    fn cell(self) -> u16
-        ensures { result ≡ spot self };
-
-    fn came_from(self) -> Option<Direction>
-        ensures { result ≡ came self };
 }
 
 // A plain cell number.
@@ -41,17 +36,9 @@ impl Entry for u16 {
     fn reached(cell: u16, _back: Direction) -> u16 {
         cell
     }
-
-    fn cell(self) -> u16 {
-        self
-    }
-
-    fn came_from(self) -> Option<Direction> {
-        None
-    }
 }
 
-// A cell, and the side that it was reached by, unless the search began there.
+/// A cell, and the side that it was reached by, unless the search began there.
 #[derive(Clone, Copy, Default)]
 pub struct Step {
     pub cell: u16,
@@ -76,13 +63,5 @@ impl Entry for Step {
             cell,
             side: Some(back),
         }
-    }
-
-    fn cell(self) -> u16 {
-        self.cell
-    }
-
-    fn came_from(self) -> Option<Direction> {
-        self.side
     }
 }

@@ -71,8 +71,8 @@ fn cut_cells<S: Sweep>(shape: Shape, tile: &mut [Cell], work: &mut [S::Entry])
     cut_whole::<S>(&mut tile[0..n], shape.columns(), work);
 }
 
-// Pushes flow along a shortest residual path from a deficit cell to a surplus cell, until none is left.
-// Its workspace holds step records.
+/// Pushes flow along a shortest residual path from a deficit cell to a surplus cell, until none is left.
+/// Its workspace holds step records.
 #[derive(Clone, Copy)]
 pub struct AugmentingPaths;
 
@@ -96,7 +96,7 @@ impl CutMaker for AugmentingPaths {
     }
 }
 
-// Ranks the cells, and moves flow tie by tie towards lower ranks. Its workspace holds cell numbers.
+/// Ranks the cells, and moves flow tie by tie towards lower ranks. Its workspace holds cell numbers.
 #[derive(Clone, Copy)]
 pub struct PushRelabel;
 

@@ -3,14 +3,14 @@ ghost use Rattle.std.specs.Prelude.{◌≡◌, ◌<◌, ◌≤◌, length};
 ghost use Rattle.flow.specs.Sides.{Eased};
 ghost use Rattle.flow.specs.Lent.{SameRows};
 ghost use Rattle.cut.specs.Ranks.{ranked_at};
-ghost use Rattle.cut.specs.Lent.{InPlace};
-ghost use Rattle.cut.specs.Searches.{AllInside, Eases};
+ghost use Rattle.cut.specs.Lent.{InPlace, Leveled};
+ghost use Rattle.cut.specs.Searches.{AllInside, Eases, Ranked};
 ghost use Rattle.cut.specs.Climbs.{Swept};
 ghost use Rattle.cut.specs.Relabels.{rank_beside, lower_rank};
 
 use crate::climb::{above, climb, first_surplus, is_ranked_surplus};
 use crate::ranks::put_rank;
-use crate::search::rank_all;
+use crate::search::{start_search, visit_all};
 use flow::{Direction, Flows};
 use limits::MAX_TIE;
 use queue::Queue;
@@ -145,12 +145,28 @@ fn drain(flows: &mut Flows, work: &mut [u16])
         if left == 0 {
             return;
         }
-        let Some(v) = queue.dequeue() else {
+        let Some(cell) = queue.dequeue() else {
             return;
         };
-        if relieve(flows, &mut queue, v as usize) {
+        if relieve(flows, &mut queue, cell as usize) {
             left -= 1;
         }
+    }
+}
+
+// Ranks every cell that residual arcs reach from a deficit cell, and no other.
+fn rank_all(flows: &mut Flows, work: &mut [u16])
+    requires { length flows.old.tile.now ≤ length work.old }
+    ensures level { Leveled flows.old flows.new }
+    ensures ranked { Ranked flows.new.columns flows.new.tile.now }
+{
+    let mut queue = Queue::new(work);
+    start_search(flows, &mut queue);
+    loop {
+        let Some(cell) = queue.dequeue() else {
+            return;
+        };
+        visit_all(flows, &mut queue, cell as usize, None);
     }
 }
 

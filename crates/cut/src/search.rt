@@ -1,10 +1,11 @@
-// The search that ranks every cell which residual arcs reach from a deficit cell.
+// The search that ranks every cell which residual arcs reach from a deficit cell: its start, and the visit of a cell. Each maker
+// fetches what waits in a loop of its own.
 ghost use Rattle.std.specs.Prelude.{◌≡◌, ℕ, ◌<◌, ◌≤◌, ◌↔◌, IsTrue, if◌then◌else◌, [], length};
 ghost use Rattle.queue.specs.Queue.{waits, capacity};
 ghost use Rattle.cut.specs.Ranks.{rank_of};
 ghost use Rattle.cut.specs.Lent.{Leveled};
 ghost use Rattle.flow.specs.Sides.{beside};
-ghost use Rattle.cut.specs.Searches.{Fresh, FoundFresh, Goes, GoesIf, GoesOn, Started, Ranked};
+ghost use Rattle.cut.specs.Searches.{Fresh, FoundFresh, Goes, GoesIf, GoesOn, Started};
 
 use crate::entry::Entry;
 use crate::ranks::{clear_ranks, put_rank};
@@ -29,15 +30,21 @@ fn fresh(flows: &Flows, u: usize, toward: Direction) -> Option<usize>
     (flows.tile[v].rank == 0 && flows.is_residual(u, toward)).then_some(v)
 }
 
-// Ranks the cell in one direction of the entry's, if it has no rank and a residual arc leads there, and has it wait.
-fn visit<E: Entry>(flows: &mut Flows, queue: &mut Queue<E>, entry: E, toward: Direction)
-    requires { E.Entry.spot entry < length flows.old.tile.now }
-    ensures { Goes E.Entry.spot E.Entry.came entry toward flows.old flows.new queue.old queue.new }
+// Ranks the cell in one direction of u, if it has no rank and a residual arc leads there, and has it wait. `from` is the side that u
+// was reached by.
+fn visit<E: Entry>(
+    flows: &mut Flows,
+    queue: &mut Queue<E>,
+    u: usize,
+    from: Option<Direction>,
+    toward: Direction,
+)
+    requires { u < length flows.old.tile.now }
+    ensures { Goes E.Entry.spot E.Entry.came u from toward flows.old flows.new queue.old queue.new }
 {
-    if entry.came_from() == Some(toward) {
+    if from == Some(toward) {
         return;
     }
-    let u = entry.cell() as usize;
     let Some(v) = fresh(flows, u, toward) else {
         return;
     };
@@ -50,34 +57,39 @@ fn visit<E: Entry>(flows: &mut Flows, queue: &mut Queue<E>, entry: E, toward: Di
 fn visit_if<E: Entry>(
     flows: &mut Flows,
     queue: &mut Queue<E>,
-    entry: E,
+    u: usize,
+    from: Option<Direction>,
     toward: Direction,
     wanted: bool,
 )
-    requires { E.Entry.spot entry < length flows.old.tile.now }
-    ensures { GoesIf wanted E.Entry.spot E.Entry.came entry toward flows.old flows.new queue.old queue.new }
+    requires { u < length flows.old.tile.now }
+    ensures { GoesIf wanted E.Entry.spot E.Entry.came u from toward flows.old flows.new queue.old queue.new }
 {
     if wanted {
-        visit(flows, queue, entry, toward);
+        visit(flows, queue, u, from, toward);
     }
 }
 
-// Goes on from the entry's cell in all directions but the one back. Mostly there is nowhere to go, so all four are looked at first.
-pub(crate) fn visit_all<E: Entry>(flows: &mut Flows, queue: &mut Queue<E>, entry: E)
-    requires { E.Entry.spot entry < length flows.old.tile.now }
-    ensures { GoesOn E.Entry.spot E.Entry.came entry flows.old flows.new queue.old queue.new }
+// Goes on from u in all directions but the one that it was reached from. Mostly there is nowhere to go, so all four are looked at first.
+pub(crate) fn visit_all<E: Entry>(
+    flows: &mut Flows,
+    queue: &mut Queue<E>,
+    u: usize,
+    from: Option<Direction>,
+)
+    requires { u < length flows.old.tile.now }
+    ensures { GoesOn E.Entry.spot E.Entry.came u from flows.old flows.new queue.old queue.new }
 {
-    let u = entry.cell() as usize;
     let right = is_fresh(flows, u, Direction::Right);
     let down = is_fresh(flows, u, Direction::Down);
     let left = is_fresh(flows, u, Direction::Left);
     let up = is_fresh(flows, u, Direction::Up);
     if right | down | left | up {
         // A loop over `Direction::ALL` makes whole cuts a fifth slower.
-        visit_if(flows, queue, entry, Direction::Right, right);
-        visit_if(flows, queue, entry, Direction::Down, down);
-        visit_if(flows, queue, entry, Direction::Left, left);
-        visit_if(flows, queue, entry, Direction::Up, up);
+        visit_if(flows, queue, u, from, Direction::Right, right);
+        visit_if(flows, queue, u, from, Direction::Down, down);
+        visit_if(flows, queue, u, from, Direction::Left, left);
+        visit_if(flows, queue, u, from, Direction::Up, up);
     }
 }
 
@@ -114,17 +126,4 @@ pub(crate) fn start_search<E: Entry>(flows: &mut Flows, queue: &mut Queue<E>)
 {
     clear_ranks(flows.tile);
     begin(flows, queue);
-}
-
-// Ranks every cell that residual arcs reach from a deficit cell, and no other.
-pub(crate) fn rank_all<E: Entry>(flows: &mut Flows, work: &mut [E])
-    requires { length flows.old.tile.now ≤ length work.old }
-    ensures level { Leveled flows.old flows.new }
-    ensures ranked { Ranked flows.new.columns flows.new.tile.now }
-{
-    let mut queue = Queue::new(work);
-    start_search(flows, &mut queue);
-    while let Some(entry) = queue.dequeue() {
-        visit_all(flows, &mut queue, entry);
-    }
 }

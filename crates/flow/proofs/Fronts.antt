@@ -147,9 +147,6 @@ module _ (s : Shape) (t : Tile) (given : Cuttable s t) (n c : ℕ) (all : n ≡ 
       subst (λ (k : ℕ). Admissible k (take (n - 0) t)) (sym row)
       (subst (λ (k : ℕ). Admissible s.columns (take k t)) part_is (front_admissible s t given))
 
-  pub part_long : length (take (n - 0) t) ≡ cells s
-  part_long = subst (λ (k : ℕ). length (take k t) ≡ cells s) part_is (front_long s t given)
-
   pub part_cut : (f : Tile) → Cut c (take (n - 0) t) f → FourPoints s t (f ++ drop (n - 0) t)
   part_cut f cut =
       let own : Cut s.columns (take (cells s) t) f

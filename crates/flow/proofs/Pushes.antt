@@ -1,5 +1,5 @@
 -- One push: what it changes, and what it keeps.
-use Rattle.std.proofs.Common.{◌≡◌, ℕ, ◌+◌, ◌-◌, ◌<◌, ◌≤◌, Bool, true, false, cond, eqb, ltb, leb, ◌⊎◌, Some, None, w32, SFits, to_z, of_z, rules, length, ℤ, pos, negsuc, ◌+ℤ◌, ◌-ℤ◌, neg_ℤ, nat_abs, ◌≤ℤ◌, ◌<ℤ◌, sym, refl, ap, ◌∙◌, subst, inl, inr, ⊎_elim, arith}
+use Rattle.std.proofs.Common.{◌≡◌, ℕ, ◌+◌, ◌-◌, ◌<◌, ◌≤◌, Bool, true, false, cond, eqb, ltb, leb, ◌⊎◌, w32, SFits, to_z, of_z, length, ℤ, pos, negsuc, ◌+ℤ◌, ◌-ℤ◌, neg_ℤ, nat_abs, ◌≤ℤ◌, ◌<ℤ◌, sym, refl, ap, ◌∙◌, subst, inl, inr, ⊎_elim, arith}
 use borrow.Author.Differences.{down}
 use Rattle.std.proofs.lemmas.Bool.{cases_eq, eq-eqb, ne_eqb, leb-true, ltb-true, both_ways}
 use Rattle.std.proofs.lemmas.Int.{ints, to_z-of_z}
@@ -12,11 +12,6 @@ use Rattle.tile.specs.Tiles.{Tile, cell}
 use Rattle.flow.specs.Sides.{beside, has_beside, opposite, live_pair, room_forth, room_back, room, remains, SameSurvey, SameFlows, Admissible, Eased, add_flow, pushed}
 use Rattle.tile.specs.Ties.{offset}
 use Rattle.flow.proofs.Fields.{flow_added, down_added_right, right_added_down, rank_added, still_added, still_trans, still_self, live_still, weight_still, charge_still, flow_level, remains_level, level_still, remains_added_right, remains_added_down}
-
--- the cell that is found in a direction
-pub found_is : (x : Bool) (a v : ℕ) → Some v ≡ cond x (Some a) None → (x ≡ true) × (v ≡ a)
-found_is true a v e = (refl, search rules)
-found_is false a v e = absurd (search rules)
 
 -- a number that is handed over keeps its value
 pub as_handed_over : (z : ℤ) → SFits w32 z → to_z w32 (of_z w32 z) ≡ z

@@ -6,7 +6,7 @@ ghost use Rattle.flow.specs.Points.{Cuttable};
 use limits::{MAX_CHARGE, MAX_TIE};
 use tile::{Cell, Shape, Side};
 
-// A tile with a record for each cell of its shape. A cell comes by its number: its ties lead to others of the same chart.
+/// A tile with a record for each cell of its shape. A cell comes by its number: its ties lead to others of the same chart.
 #[derive(Drop)]
 pub struct Chart<'a> {
     pub shape: Shape,
@@ -23,7 +23,7 @@ impl<'a> Chart<'a> {
     ghost use Rattle.flow.specs.Networks.{is_live};
     ghost use Rattle.flow.specs.Charts.{SideFits, CellFits, AllFit};
 
-    // The chart of a tile that has a record for each cell.
+    /// The chart of a tile that has a record for each cell.
     pub fn of(shape: Shape, tile: &'a [Cell]) -> Option<Chart<'a>>
         ensures { MatchOption result (length tile.now < cells shape) (λ chart. (chart.shape ≡ shape) × (chart.tile.now ≡ tile.now)) }
     {
@@ -33,7 +33,7 @@ impl<'a> Chart<'a> {
         Some(Chart { shape, tile })
     }
 
-    // The neighbour on a side, where the tie to it is live.
+    /// The neighbour on a side, where the tie to it is live.
     pub fn live_neighbour(&self, at: usize, side: Side) -> Option<usize>
         requires { at < cells self.now.shape }
         ensures live { IsSome result ↔ IsTrue (is_live self.now.shape self.now.tile.now at side) }
@@ -46,7 +46,7 @@ impl<'a> Chart<'a> {
             .then_some(other)
     }
 
-    // The weight of the tie on a side, where it is live; else 0, as of no tie.
+    /// The weight of the tie on a side, where it is live; else 0, as of no tie.
     pub fn live_weight(&self, at: usize, side: Side) -> u16
         requires { at < cells self.now.shape }
         ensures { result ≡ (if is_live self.now.shape self.now.tile.now at side then stored_tie (cell self.now.tile.now at) side else 0) }
@@ -89,7 +89,7 @@ impl<'a> Chart<'a> {
     }
 }
 
-// May the tile be handed to a cut maker?
+/// May the tile be handed to a cut maker?
 pub fn is_cuttable(shape: Shape, tile: &[Cell]) -> bool
     ensures { IsTrue result ↔ Cuttable shape tile.now }
 {

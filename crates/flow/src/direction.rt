@@ -14,7 +14,7 @@ pub enum Direction {
 }
 
 impl Direction {
-    // All four.
+    /// All four.
     pub const ALL: [Direction; 4] = [
         Direction::Right,
         Direction::Down,
@@ -22,7 +22,7 @@ impl Direction {
         Direction::Up,
     ];
 
-    // The other way.
+    /// The other way.
     pub fn opposite(self) -> Direction
         ensures { result ≡ opposite self }
     {

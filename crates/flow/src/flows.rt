@@ -6,8 +6,8 @@ use tile::Cell;
 pub mod pushing;
 pub mod reading;
 
-// The records of a tile in rows of so many columns, whose flows keep within the weights of its live ties. What is asked of a
-// cell is asked by its number, which lies among the records: a value that knew so would hold the records while they change.
+/// The records of a tile in rows of so many columns, whose flows keep within the weights of its live ties. What is asked of a
+/// cell is asked by its number, which lies among the records: a value that knew so would hold the records while they change.
 #[derive(Drop)]
 pub struct Flows<'a> {
     pub tile: &'a mut [Cell],

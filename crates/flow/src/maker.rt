@@ -11,14 +11,15 @@ use tile::{Cell, Shape};
 
 // A maker is lent plain slices, as a host has them: a value over both would make every maker and every caller take it apart
 // and say that it still holds the same two, which is longer than the two conditions.
+/// Cuts a charged tile, by a way of its own, with a workspace of its own.
 pub trait CutMaker {
-    // What the maker keeps for each cell while it works.
+    /// What the maker keeps for each cell while it works.
     type Entry;
 
-    // The tiles that the maker may leave of a given tile.
+    /// The tiles that the maker may leave of a given tile.
     ghost leaves: { Self → Form → List Record → List Record → Type 0 };
 
-    // Cuts the tile: writes flows, marks and ranks. The entries may hold anything before and after.
+    /// Cuts the tile: writes flows, marks and ranks. The entries may hold anything before and after.
     fn cut(&self, shape: Shape, tile: &mut [Cell], entries: &mut [Self::Entry])
         requires given { Cuttable shape tile.old }
         requires room { cells shape ≤ length entries.old }
@@ -38,8 +39,8 @@ fn cut_once<M: CutMaker>(maker: &M, shape: Shape, tile: &mut [Cell], entries: &m
     maker.cut(shape, tile, entries);
 }
 
-// Cuts a tile once. The marks are the smallest cheapest set of the tile; flows and ranks are free within what this
-// maker may leave.
+/// Cuts a tile once. The marks are the smallest cheapest set of the tile; flows and ranks are free within what this
+/// maker may leave.
 #[tactic(auto, using(crate::proofs::Certifies::cut_marks))]
 pub fn run_cut<M: CutMaker>(maker: &M, shape: Shape, tile: &mut [Cell], entries: &mut [M::Entry])
     requires given { Cuttable shape tile.old }
@@ -51,7 +52,7 @@ pub fn run_cut<M: CutMaker>(maker: &M, shape: Shape, tile: &mut [Cell], entries:
     cut_once(maker, shape, tile, entries);
 }
 
-// Whoever cuts, the four points make the marks the smallest cheapest set.
+/// Whoever cuts, the four points make the marks the smallest cheapest set.
 pub fn four_points_suffice()
     ensures { CutMarksAreTheSmallestCheapestSet }
 {}

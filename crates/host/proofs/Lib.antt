@@ -1,4 +1,1 @@
-pub mod Taken
-pub mod GoingOn
-pub mod Drafted
-pub mod RoundsDone
+mod Shaped

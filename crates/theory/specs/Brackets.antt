@@ -14,7 +14,7 @@ pub record Brackets : Type 0 where
 abbrev pub middle : ℕ → ℕ → ℕ
 middle low high = (low + high) / 2
 
--- a cell is settled when one height is left
+-- a cell is settled when the low and the high end of its bracket are the same
 abbrev pub settled : Brackets → CellSet
 settled b u = b.low u == b.high u
 

@@ -4,7 +4,7 @@ ghost use Rattle.std.specs.Int.Count.{count_leading_zeros};
 ghost use Rattle.theory.specs.Brackets.{middle};
 ghost use Rattle.tile.specs.Halving.{from_to, half_toward, halving, RoundsDue, HalvingHoldsItsHeight, HalvingStaysBelowTop, HalvingsAreEqualOrDisjoint, HalvingEndsAtItsHeight};
 
-// The heights from a lowest to a highest.
+/// The heights from a lowest to a highest.
 #[derive(Clone, Copy, PartialEq, Eq, Debug)]
 pub struct Bracket {
     pub low: u16,
@@ -12,21 +12,21 @@ pub struct Bracket {
 }
 
 impl Bracket {
-    // The middle, rounded down.
+    /// The middle, rounded down.
     pub fn middle(self) -> u16
         ensures { result ≡ middle self.low self.high }
     {
         ((u32::from(self.low) + u32::from(self.high)) / 2) as u16
     }
 
-    // Is one height left?
+    /// Are the low and the high end the same?
     pub fn is_settled(self) -> bool
         ensures { result ≡ (self.low == self.high) }
     {
         self.low == self.high
     }
 
-    // The half that a height belongs to: up to the middle, or past it.
+    /// The half that a height belongs to: up to the middle, or past it.
     pub fn toward(self, height: u16) -> Bracket
         ensures { result ≡ half_toward self height }
     {
@@ -52,7 +52,7 @@ fn whole(top: u16) -> Bracket
     Bracket { low: 0, high: top }
 }
 
-// The bracket that holds a height after so many halvings of 0..top.
+/// The bracket that holds a height after so many halvings of 0..top.
 #[tactic(auto, using(crate::proofs::Halves::halving_more))]
 pub fn halving(rounds: u8, top: u16, height: u16) -> Bracket
     ensures { result ≡ halving rounds top height }
@@ -71,7 +71,7 @@ fn digits(number: u16) -> u8
     16 - number.leading_zeros() as u8
 }
 
-// How many halvings leave one height of 0..top.
+/// How many halvings leave one height of 0..top.
 pub fn rounds_due(top: u16) -> u8
     ensures { RoundsDue top result }
 {

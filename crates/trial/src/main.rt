@@ -5,6 +5,7 @@ mod both;
 mod random;
 mod tally;
 mod tiles;
+mod uncut;
 
 use both::cut_both;
 use cut::Step;

@@ -7,8 +7,8 @@ use flow::Chart;
 use std::fmt;
 use tile::{Cell, Shape, Side};
 
-// How many tiles were cut alike by both makers, how many cells are marked, what the marked sets cost, and a check sum of
-// all marks.
+/// How many tiles were cut alike by both makers, how many cells are marked, what the marked sets cost, and a check sum of
+/// all marks.
 #[derive(Clone, Copy, Default)]
 pub struct Tally {
     pub alike: u64,
@@ -32,7 +32,7 @@ impl fmt::Display for Tally {
     }
 }
 
-// Do two tiles have the same marks?
+/// Do two tiles have the same marks?
 pub fn same_marks(first: &[Cell], second: &[Cell]) -> bool
     ensures { IsTrue result ↔ SameMarks first.now second.now }
 {

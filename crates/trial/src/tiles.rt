@@ -3,7 +3,7 @@ use crate::random::Random;
 use flow::Chart;
 use tile::{Bracket, Cell, Shape, Side};
 
-// How large charges and ties may get.
+/// How large charges and ties may get.
 #[derive(Clone, Copy)]
 pub struct Sizes {
     pub charge: u32,

@@ -52,8 +52,8 @@ impl<'a> Flows<'a> {
         self.remainder(v).min(most).min(self.room(u, toward))
     }
 
-    // Moves what fits out of u in a direction, at most `most`, and no more than the cell there has in surplus.
-    // Answers whether any moved.
+    /// Moves what fits out of u in a direction, at most `most`, and no more than the cell there has in surplus.
+    /// Answers whether any moved.
     pub fn send(&mut self, u: usize, toward: Direction, most: i32) -> bool
         requires place { u < length self.old.tile.now }
         requires some { pos 0 <ℤ most }

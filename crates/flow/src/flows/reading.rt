@@ -46,7 +46,7 @@ impl<'a> Flows<'a> {
         here.charge + here.right_flow + here.down_flow
     }
 
-    // The remainder of a cell: its charge, plus what leaves it, minus what enters it.
+    /// The remainder of a cell: its charge, plus what leaves it, minus what enters it.
     pub fn remainder(&self, u: usize) -> i32
         requires { u < length self.now.tile.now }
         ensures value { result ≡ remains self.now.tile.now self.now.columns u }
@@ -58,7 +58,7 @@ impl<'a> Flows<'a> {
         balance(out, left, up)
     }
 
-    // Is a cell in deficit?
+    /// Is a cell in deficit?
     pub fn in_deficit(&self, u: usize) -> bool
         requires { u < length self.now.tile.now }
         ensures { result ≡ int_lt (remains self.now.tile.now self.now.columns u) (pos 0) }
@@ -66,7 +66,7 @@ impl<'a> Flows<'a> {
         self.remainder(u) < 0
     }
 
-    // Is a cell in surplus?
+    /// Is a cell in surplus?
     pub fn in_surplus(&self, u: usize) -> bool
         requires { u < length self.now.tile.now }
         ensures { result ≡ int_lt (pos 0) (remains self.now.tile.now self.now.columns u) }
@@ -74,7 +74,7 @@ impl<'a> Flows<'a> {
         self.remainder(u) > 0
     }
 
-    // The cell in a direction, where there is a record.
+    /// The cell in a direction, where there is a record.
     pub fn beside(&self, u: usize, toward: Direction) -> Option<usize>
         requires { u < length self.now.tile.now }
         ensures { result ≡ found_beside self.now.columns (length self.now.tile.now) toward u }
@@ -102,7 +102,7 @@ impl<'a> Flows<'a> {
         }
     }
 
-    // The room of the residual arc out of u in a direction: 0 where there is no tie or it is not live.
+    /// The room of the residual arc out of u in a direction: 0 where there is no tie or it is not live.
     pub fn room(&self, u: usize, toward: Direction) -> i32
         requires { u < length self.now.tile.now }
         ensures value { result ≡ room self.now.tile.now self.now.columns toward u }
@@ -125,7 +125,7 @@ impl<'a> Flows<'a> {
         live & (toward.flow_out(tile[a].flow(side)) < i32::from(tile[a].tie(side)))
     }
 
-    // Does a residual arc lead out of u in a direction? Written without a branch, as a search would have it guessed wrong too often.
+    /// Does a residual arc lead out of u in a direction? Written without a branch, as a search would have it guessed wrong too often.
     pub fn is_residual(&self, u: usize, toward: Direction) -> bool
         requires { u < length self.now.tile.now }
         ensures { result ≡ int_lt (pos 0) (room self.now.tile.now self.now.columns toward u) }

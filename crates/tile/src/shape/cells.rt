@@ -7,14 +7,14 @@ use crate::shape::Shape;
 use crate::side::Side;
 
 impl Shape {
-    // How many cells there are.
+    /// How many cells there are.
     pub fn cells(self) -> usize
         ensures { result ≡ cells self }
     {
         self.rows * self.columns
     }
 
-    // The neighbour of a cell on a side: none where the cell lies outside the shape, or at its end.
+    /// The neighbour of a cell on a side: none where the cell lies outside the shape, or at its end.
     pub fn neighbour(self, cell: usize, side: Side) -> Option<usize>
         ensures { result ≡ neighbour_within self cell side }
     {

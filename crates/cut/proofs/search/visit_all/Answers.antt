@@ -15,25 +15,23 @@ pub returns-then-right-down : goal.returns-then-right-down
 returns-then-right-down g c =
     let spot = g.E.Entry.spot in
     let came = g.E.Entry.came in
-    let ue = c.cell-u.ensures in
     let l = c.requires in
-    let o = going_none spot came c.args.entry c.args.flows.now c.args.queue.now in
-    let a = going_if spot came c.args.entry 0 _ _ _ _ _ _ _ _ ue l o c.is_fresh-right.ensures c.visit_if.ensures in
-    let b = going_if spot came c.args.entry 1 _ _ _ _ _ _ _ _ ue l a c.is_fresh-down.ensures c.visit_if-then-right-down.ensures in
-    let d = going_if spot came c.args.entry 2 _ _ _ _ _ _ _ _ ue l b c.is_fresh-left.ensures c.visit_if-then-right-down-2.ensures in
-    let e = going_if spot came c.args.entry 3 _ _ _ _ _ _ _ _ ue l d c.is_fresh-up.ensures c.visit_if-then-right-down-3.ensures in
-    going_all spot came c.args.entry 4 _ _ _ _ (omega arith) e
+    let o = going_none spot came c.args.u c.args.from c.args.flows.now c.args.queue.now in
+    let a = going_if spot came c.args.u c.args.from 0 _ _ _ _ _ _ _ l o c.is_fresh-right.ensures c.visit_if.ensures in
+    let b = going_if spot came c.args.u c.args.from 1 _ _ _ _ _ _ _ l a c.is_fresh-down.ensures c.visit_if-then-right-down.ensures in
+    let d = going_if spot came c.args.u c.args.from 2 _ _ _ _ _ _ _ l b c.is_fresh-left.ensures c.visit_if-then-right-down-2.ensures in
+    let e = going_if spot came c.args.u c.args.from 3 _ _ _ _ _ _ _ l d c.is_fresh-up.ensures c.visit_if-then-right-down-3.ensures in
+    going_all spot came c.args.u c.args.from 4 _ _ _ _ (omega arith) e
 
 pub returns-else-right-down : goal.returns-else-right-down
 returns-else-right-down g c =
     let spot = g.E.Entry.spot in
     let came = g.E.Entry.came in
-    let ue = c.cell-u.ensures in
     let l = c.requires in
     let no = none_of c.is_fresh-right.result c.is_fresh-down.result c.is_fresh-left.result c.is_fresh-up.result c.if-right-down.false in
-    let o = going_none spot came c.args.entry c.args.flows.now c.args.queue.now in
-    let a = going_not spot came c.args.entry 0 _ _ _ _ _ _ ue l o c.is_fresh-right.ensures no.0 in
-    let b = going_not spot came c.args.entry 1 _ _ _ _ _ _ ue l a c.is_fresh-down.ensures no.1 in
-    let d = going_not spot came c.args.entry 2 _ _ _ _ _ _ ue l b c.is_fresh-left.ensures no.2 in
-    let e = going_not spot came c.args.entry 3 _ _ _ _ _ _ ue l d c.is_fresh-up.ensures no.3 in
-    going_all spot came c.args.entry 4 _ _ _ _ (omega arith) e
+    let o = going_none spot came c.args.u c.args.from c.args.flows.now c.args.queue.now in
+    let a = going_not spot came c.args.u c.args.from 0 _ _ _ _ _ l o c.is_fresh-right.ensures no.0 in
+    let b = going_not spot came c.args.u c.args.from 1 _ _ _ _ _ l a c.is_fresh-down.ensures no.1 in
+    let d = going_not spot came c.args.u c.args.from 2 _ _ _ _ _ l b c.is_fresh-left.ensures no.2 in
+    let e = going_not spot came c.args.u c.args.from 3 _ _ _ _ _ l d c.is_fresh-up.ensures no.3 in
+    going_all spot came c.args.u c.args.from 4 _ _ _ _ (omega arith) e

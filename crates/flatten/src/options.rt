@@ -22,14 +22,14 @@ const STATUSES: &str =
 arguments are not understood; 3 with --strict where the file is refused.";
 
 /// The cut makers.
-#[derive(Clone, Copy, PartialEq, Eq, Debug)]
+#[derive(Clone, Copy)]
 pub enum Cut {
     Paths,
     Push,
 }
 
 /// What the arguments ask for.
-#[derive(Clone, Copy, PartialEq, Eq, Debug)]
+#[derive(Clone, Copy)]
 pub struct Options {
     pub records: usize,
     pub cut: Cut,

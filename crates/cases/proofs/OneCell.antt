@@ -70,8 +70,8 @@ one_rounds : (rule : Rule) → Lawful rule → (leaves : Shape → Tile → Tile
 one_rounds rule lawful leaves d t n answer t' l s room does answers =
     let e : cells d.shape ≡ 1 = one d.shape s.made in
     let solved : IsOkAnd answer (λ m. Solved rule leaves d.shape t m t') =
-        surely (omega (arith, s.made.same_top, lawful.level_least))
-        (surely (omega (arith, e)) (surely (sound_slice every_run rule lawful d.shape [] (draft d) t (by_cells d t rule s)) (surely (omega (arith, e, s.whole)) does))) in
+    surely (omega (arith, s.made.same_top, lawful.level_least))
+    (surely (omega (arith, e)) (surely (sound_slice every_run rule lawful d.shape [] (draft d) t (by_cells d t rule s)) (surely (omega (arith, e, s.whole)) does))) in
     let there : Solved rule leaves d.shape t l t' = subst (λ (z : Result Level (Refused Draft)). IsOkAnd z (λ m. Solved rule leaves d.shape t m t')) answers solved in
     there.rounds
 

@@ -6,7 +6,7 @@ use price::Squared;
 use solve::solve;
 use tile::Cell;
 
-/// Solves a row of two cells, read as 0 and 10, in a record for each cell and a workspace of as many entries.
+/// Solves a row of two cells, read as 0 and 10, in a record for each cell and a workspace (memory for the cuts) of as many entries.
 pub fn solve_pair(tile: &mut [Cell; 2], workspace: &mut [u16; 2]) -> Result<Level, Refusal> {
     let draft = start(1, 2, 10, tile)?;
     let draft = draft.put(tile, 0, 0, 0, 1)?; // row 0, column 0: the reading 0 of class 1

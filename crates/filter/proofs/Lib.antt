@@ -10,4 +10,3 @@ pub mod Places
 pub mod Resurveyed
 pub mod Staying
 pub mod ByNumbers
-pub mod Writes

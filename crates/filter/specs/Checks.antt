@@ -1,7 +1,8 @@
 -- The checks of a call, in their order, and what they come to.
 use Rattle.std.specs.Prelude.{ℕ, ◌+◌, ◌*◌, ◌<◌, ◌≤◌, length}
 use Rattle.limits.specs.Limits.{most_rows}
-use Rattle.limits.specs.Checking.{Checked}
+use Rattle.limits.specs.Checking.{CheckedBy, Checked}
+use Rattle.limits.specs.Refusals.{number}
 use Rattle.limits.specs.declared.refusal.Refusal.{Refusal}
 use Rattle.limits.specs.declared.refusal.Refusal.TheVariants.{Range, FewRecords, Corrupt, Outside, Reading, Tie, FewEntries, Ceiling, NoRoundLeft, RoundsLeft}
 use Rattle.tile.specs.declared.shape.Shape.{Shape}
@@ -13,9 +14,14 @@ use Rattle.passes.specs.Soundness.{SoundReading, SoundTies, Sound}
 
 -- ---- the checks of each call; Left says what a refusal leaves, and Rest what acceptance comes to
 
--- start, over so many records: rows, columns and top in their ranges, and a record for each cell
+-- the checks of start, over so many records, with these two refusals: rows, columns and top in their ranges, and a record for each cell
+abbrev pub StartCheckedBy : {E : Type 0} → (E → ℕ) → (range few : E) → (rows columns top records : ℕ) → (E → Type 0) → Type 0 → Type 0
+StartCheckedBy number_of range few rows columns top records Left Rest =
+    CheckedBy number_of 1 range (Ranged most_rows rows columns top) Left (CheckedBy number_of 2 few (rows * columns ≤ records) Left Rest)
+
+-- start
 abbrev pub StartChecked : (rows columns top records : ℕ) → (Refusal → Type 0) → Type 0 → Type 0
-StartChecked rows columns top records Left Rest = Checked 1 Range (Ranged most_rows rows columns top) Left (Checked 2 FewRecords (rows * columns ≤ records) Left Rest)
+StartChecked = StartCheckedBy number Range FewRecords
 
 -- every other call begins with these, and begin and reopen have no more: a record for each cell, and all of them sound
 abbrev pub TileChecked : Shape → (done : ℕ) → Tile → (Refusal → Type 0) → Type 0 → Type 0

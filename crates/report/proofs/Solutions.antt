@@ -35,9 +35,6 @@ use Rattle.report.specs.Solving.{LastRound, RecordsSolved}
 
 -- ---- answers
 
-pub is_ok : {X E : Type 0} (answer : Result X E) (x : X) → answer ≡ Ok x → IsOk answer
-is_ok answer x e = subst (λ z. IsOk z) (sym e) refl
-
 pub same_ok : {X E : Type 0} (answer : Result X E) (x y : X) → answer ≡ Ok x → answer ≡ Ok y → x ≡ y
 same_ok answer x y p q = cc (sym p ∙ q)
 

@@ -1,10 +1,10 @@
 -- Examples in numbers, which pin the definitions.
-use Rattle.std.specs.Prelude.{◌≡◌, [], ◌∷◌, pos, neg_ℤ, codes}
+use Rattle.std.specs.Prelude.{◌≡◌, ℕ, List, [], ◌∷◌, pos, neg_ℤ, codes}
 use Rattle.price.specs.Kinds.{absolute}
 use Rattle.passes.specs.Writing.{with_bracket}
 use Rattle.tile.specs.Halving.{from_to}
 use Rattle.tile.specs.Tiles.{Tile}
-use Rattle.tile.specs.Examples.{first, second}
+use Rattle.tile.specs.Examples.{two_in_a_row, first, second}
 use Rattle.filter.specs.Runs.{surveyed}
 use Rattle.filter.specs.Examples.{one_cell, calls, ended}
 use Rattle.tilefile.specs.declared.fault.Section.TheVariants.{Rule}
@@ -13,6 +13,7 @@ use Rattle.tilefile.specs.Sections.{fault}
 use Rattle.report.specs.declared.refusing.FileRefusal.TheVariants.{File, FewEntries, FewPlaces}
 use Rattle.report.specs.declared.solving.Solution.{Solution}
 use Rattle.report.specs.Printing.{line, grid_text, solution_text}
+use Rattle.report.specs.Answering.{Printed}
 use Rattle.report.specs.Refusing.{file_refusal_number, file_refusal_text}
 use Rattle.report.specs.Solving.{SolvedAs}
 
@@ -43,6 +44,10 @@ dearer = record { rows = 1; columns = 1; top = 1; rounds = 1; energy = 1 }
 
 abbrev pub longer : Solution
 longer = record { rows = 1; columns = 1; top = 1; rounds = 2; energy = 0 }
+
+-- what a text without its last heights would be, where they are 0
+pub record TextsHaveEveryHeight : Type 0 where
+  pub none_is_left_out : (f : List ℕ) → Printed two_in_a_row f (codes "1 2 10 4 0\n\n") → ⊥
 
 pub record SolutionsAreRead : Type 0 where
   pub one_cell_solved : SolvedAs (absolute 1) one_cell (surveyed (calls 1)) (ended 1 (neg_ℤ (pos 1))) of_one_cell

@@ -1,13 +1,12 @@
 -- The steps of solve, from the contracts of the calls.
-use Rattle.std.proofs.Common.{◌≡◌, ℕ, suc, ◌+◌, ◌^◌, ◌<◌, ◌≤◌, ◌∷◌, ◌++◌, take, IsOk, IfOk, IsOkAnd, Ok, Err, Result, sym, refl, ap, ◌∙◌, subst, ⊎_elim, add-one, arith}
-use Rattle.std.proofs.lemmas.Bool.{cases_lt}
+use Rattle.std.proofs.Common.{◌≡◌, ℕ, suc, ◌+◌, ◌≤◌, ◌∷◌, ◌++◌, take, IsOk, IfOk, IsOkAnd, Ok, Err, Result, sym, refl, ap, ◌∙◌, subst, add-one}
 use Rattle.limits.specs.declared.refusal.Refusal.{Refusal}
 use Rattle.limits.specs.Checking.{passed}
 use Rattle.limits.proofs.Outcomes.{either, mapped, followed, surely}
 use Rattle.price.specs.Rules.{Rule, Lawful}
 use Rattle.tile.specs.declared.bracket.Bracket.{Bracket}
 use Rattle.tile.specs.declared.shape.Shape.{Shape}
-use Rattle.tile.specs.Halving.{RoundsOver, RoundLeft, RoundsDue}
+use Rattle.tile.specs.Halving.{RoundsDue}
 use Rattle.tile.specs.Shapes.{cells}
 use Rattle.tile.specs.Tiles.{Tile, Survey, survey}
 use Rattle.flow.specs.Points.{FourPoints}
@@ -103,32 +102,25 @@ none_far rule leaves x t due n r = record {
   does = record { shape = refl; done = r.none_done; halved = none; sound = r.ready.fit.sound; onward = λ h run. record { history = h; same_survey = refl; run = run } };
 }
 
--- the round after i, while some are due
-module _ (rule : Rule) (leaves : Shape → Tile → Tile → Type 0) (x : Rounding) (t : Tile) (due n i : ℕ) (z : Rounding) (w : Tile) (r : RoundsReady rule x t due n) (far : RoundsFar rule leaves x t i z w) where
-  pub next_ready : i < due → RoundReady rule z w n
-  next_ready less =
-      let ready : Ready rule x.shape i w n = record { fit = record { whole = omega (arith, r.ready.fit.whole, far.kept.long); sound = far.does.sound }; room = r.ready.room; reach = r.ready.reach } in
-      let left : RoundLeft x.shape.top i = ⊎_elim (λ (l : RoundLeft x.shape.top i). l) (λ (over : RoundsOver x.shape.top i). let late : due ≤ i = r.is_due.least i over in absurd (omega arith)) (cases_lt (2 ^ i) (x.shape.top + 1)) in
-      let here = subst (λ (s : Shape). Ready rule s z.done w n × RoundLeft s.top z.done) (sym far.does.shape) (subst (λ (k : ℕ). Ready rule x.shape k w n × RoundLeft x.shape.top k) (sym far.does.done) (ready, left)) in
-      record { ready = here.0; left = here.1 }
-
-  pub one_far : (z' : Rounding) (w' : Tile) → SurveyKept z.shape w w' → RoundDone rule leaves z w z' w' → RoundsFar rule leaves x t (i + 1) z' w'
-  one_far z' w' kept b =
-      let e : z.shape ≡ x.shape = far.does.shape in
-      let done : z.done + 1 ≡ i + 1 = ap (λ (k : ℕ). k + 1) far.does.done in
-      record {
-        kept = kept_more x.shape t w w' far.kept (subst (λ (s : Shape). SurveyKept s w w') e kept);
-        does = record {
-          shape = b.shape ∙ e;
-          done = b.done ∙ done;
-          halved = subst (λ (k : ℕ). HalvedTimes rule leaves x.shape k t w') (sym (add-one i)) (more far.does.halved (subst (λ (s : Shape). HalvedBy rule leaves s w w') e b.halved));
-          sound = subst (λ (s : Shape). Sound s (i + 1) w') e (subst (λ (k : ℕ). Sound z.shape k w') done b.sound);
-          onward = λ h run.
-              let a = far.does.onward h run in
-              let c = subst (λ (s : Shape). Onward rule s (rounding z) w (rounding z') w') e b.onward a.history a.run in
-              record { history = c.history; same_survey = c.same_survey ∙ a.same_survey; run = c.run };
-        };
-      }
+-- and one round more
+pub one_far : (rule : Rule) (leaves : Shape → Tile → Tile → Type 0) (x : Rounding) (t : Tile) (i : ℕ) (z : Rounding) (w : Tile) (z' : Rounding) (w' : Tile) → RoundsFar rule leaves x t i z w → SurveyKept z.shape w w' →
+    RoundDone rule leaves z w z' w' → RoundsFar rule leaves x t (i + 1) z' w'
+one_far rule leaves x t i z w z' w' far kept b =
+    let e : z.shape ≡ x.shape = far.does.shape in
+    let done : z.done + 1 ≡ i + 1 = ap (λ (k : ℕ). k + 1) far.does.done in
+    record {
+      kept = kept_more x.shape t w w' far.kept (subst (λ (s : Shape). SurveyKept s w w') e kept);
+      does = record {
+        shape = b.shape ∙ e;
+        done = b.done ∙ done;
+        halved = subst (λ (k : ℕ). HalvedTimes rule leaves x.shape k t w') (sym (add-one i)) (more far.does.halved (subst (λ (s : Shape). HalvedBy rule leaves s w w') e b.halved));
+        sound = subst (λ (s : Shape). Sound s (i + 1) w') e (subst (λ (k : ℕ). Sound z.shape k w') done b.sound);
+        onward = λ h run.
+            let a = far.does.onward h run in
+            let c = subst (λ (s : Shape). Onward rule s (rounding z) w (rounding z') w') e b.onward a.history a.run in
+            record { history = c.history; same_survey = c.same_survey ∙ a.same_survey; run = c.run };
+      };
+    }
 
 -- ---- finish
 
@@ -159,49 +151,23 @@ times_held rule lawful leaves keeps s y reach none held = held
 times_held rule lawful leaves keeps s y reach (more {n} {t} {u} {t'} times last) held =
     subst (λ (z : Tile). Held rule s y (suc n) z) (sym last.writes) (round_held rule lawful s y n u last.cut reach (keeps _ _ _ last.left) (times_held rule lawful leaves keeps s y reach times held))
 
-module _ (rule : Rule) (leaves : Shape → Tile → Tile → Type 0) (d : Draft) (t : Tile) (due n : ℕ) (x : Rounding) (ready : Ready rule d.shape 0 t n) (is_due : RoundsDue d.shape.top due) (o : Opened d t x) where
-  pub rounds_ready : RoundsReady rule x t due n
-  rounds_ready = record {
-    none_done = o.done;
-    is_due = subst (λ (s : Shape). RoundsDue s.top due) (sym o.shape) is_due;
-    ready = subst (λ (s : Shape). Ready rule s 0 t n) (sym o.shape) ready;
-  }
-
-  module _ (z : Rounding) (t' : Tile) (kept : SurveyKept x.shape t t') (r : RoundsDone rule leaves x t due z t') where
-    shape : z.shape ≡ d.shape
-    shape = r.shape ∙ o.shape
-
-    sound : Sound d.shape due t'
-    sound = subst (λ (s : Shape). Sound s due t') o.shape r.sound
-
-    pub rounds_behind : RoundsBehind z t'
-    rounds_behind =
-        let fit : Fit d.shape due t' = record { whole = omega (arith, ready.fit.whole, kept.long); sound = sound } in
-        let here = subst (λ (s : Shape). RoundsOver s.top z.done × Fit s z.done t') (sym shape) (subst (λ (k : ℕ). RoundsOver d.shape.top k × Fit d.shape k t') (sym r.done) (is_due.enough, fit)) in
-        record { over = here.0; fit = here.1 }
-
-    pub solved : Lawful rule → ((s : Shape) (before after : Tile) → leaves s before after → FourPoints s before after) → (l : Level) → Closed z t' l → Solved rule leaves d.shape t l t'
-    solved lawful keeps l c =
-        let s : Shape = d.shape in
-        let times : HalvedTimes rule leaves s due t t' = subst (λ (v : Shape). HalvedTimes rule leaves v due t t') o.shape r.halved in
-        let held : Held rule s (survey t) due t' = times_held rule lawful leaves keeps s (survey t) ready.reach times (draft_held rule lawful s t ready.fit.whole ready.fit.sound) in
-        let done : l.done ≡ due = c.done ∙ r.done in
-        let ends = ends_at rule lawful ready.reach is_due.enough held in
-        record {
-          shape = c.shape ∙ shape;
-          due = subst (λ (k : ℕ). RoundsDue s.top k) (sym done) is_due;
-          rounds = subst (λ (k : ℕ). HalvedTimes rule leaves s k t t') (sym done) times;
-          lowest_cheapest = lowest_held rule lawful ready.reach is_due.enough held;
-          settled = λ u lt. ap (λ (b : Bracket). b.high) (ends.2 u lt) ∙ sym (ap (λ (b : Bracket). b.low) (ends.2 u lt));
-          sound = subst (λ (k : ℕ). Sound s k t') (sym done) sound;
-        }
-
-    pub ends_runs : (l : Level) → Closed z t' l → EndsRuns rule d t l t'
-    ends_runs l c h run =
-        let a = o.onward rule h run in
-        let b = subst (λ (s : Shape). Onward rule s (rounding x) t (rounding z) t') o.shape r.onward a.history a.run in
-        let e = subst (λ (s : Shape). (k : History) → Run rule s k (rounding z) (take (cells s) t') → FinishedRun rule s (surveyed k) l (take (cells s) t')) shape (c.onward rule) b.history b.run in
-        record { history = e.history; same_survey = e.same_survey ∙ b.same_survey ∙ a.same_survey; finished = e.finished; run = e.run }
+pub solved : (rule : Rule) → Lawful rule → (leaves : Shape → Tile → Tile → Type 0) → ((s : Shape) (before after : Tile) → leaves s before after → FourPoints s before after) → (d : Draft) (t : Tile) (due n : ℕ) (x z : Rounding) (t' : Tile) (l : Level) →
+    Ready rule d.shape 0 t n → RoundsDue d.shape.top due → Opened d t x → RoundsDone rule leaves x t due z t' → Closed z t' l → Solved rule leaves d.shape t l t'
+solved rule lawful leaves keeps d t due n x z t' l ready is_due o r c =
+    let s : Shape = d.shape in
+    let sound : Sound s due t' = subst (λ (v : Shape). Sound v due t') o.shape r.sound in
+    let times : HalvedTimes rule leaves s due t t' = subst (λ (v : Shape). HalvedTimes rule leaves v due t t') o.shape r.halved in
+    let held : Held rule s (survey t) due t' = times_held rule lawful leaves keeps s (survey t) ready.reach times (draft_held rule lawful s t ready.fit.whole ready.fit.sound) in
+    let done : l.done ≡ due = c.done ∙ r.done in
+    let ends = ends_at rule lawful ready.reach is_due.enough held in
+    record {
+      shape = c.shape ∙ r.shape ∙ o.shape;
+      due = subst (λ (k : ℕ). RoundsDue s.top k) (sym done) is_due;
+      rounds = subst (λ (k : ℕ). HalvedTimes rule leaves s k t t') (sym done) times;
+      lowest_cheapest = lowest_held rule lawful ready.reach is_due.enough held;
+      settled = λ u lt. ap (λ (b : Bracket). b.high) (ends.2 u lt) ∙ sym (ap (λ (b : Bracket). b.low) (ends.2 u lt));
+      sound = subst (λ (k : ℕ). Sound s k t') (sym done) sound;
+    }
 
 -- ---- solve
 
@@ -221,7 +187,6 @@ solves_runs : (rule : Rule) → Lawful rule → (leaves : Shape → Tile → Til
     ((l : Level) → answer ≡ Ok l → EndsRuns rule d t l t') → SolvesRuns rule d t n answer t'
 solves_runs rule lawful leaves d t n answer t' does ends s h r r' run lent =
     let same : d.shape ≡ s = run_shape every_run rule lawful run in
-    let by_run : Run rule d.shape h (draft d) r = subst (λ (z : Shape). Run rule z h (draft d) r) (sym same) run in
     followed (λ _ _ k. k) (λ whole rest.
     let lends = lent_whole whole lent in
     let first : Run rule s h (draft d) (take (cells s) t) = subst (λ (z : Tile). Run rule s h (draft d) z) lends.0 run in

@@ -163,6 +163,7 @@ module _ (rows columns top : ℕ) (xs : List Sample) (t : Tile) (n greatest : �
             record {
               drafted = t₂;
               recorded = recorded;
+              undone = sound_of d t₂ y w;
               solved = own;
               lowest_cheapest = lowest_resurveyed rule d.shape (survey t₂) y (heights t₃) (record { reading = recorded.reading; class = recorded.class; tie = recorded.tie }) own.lowest_cheapest;
               run = record { history = f.history; same_survey = f.same_survey ∙ k.same_survey; finished = f.finished; run = f.run };

@@ -11,7 +11,7 @@ use Rattle.tile.specs.declared.shape.Shape.{Shape}
 use Rattle.tile.specs.declared.side.Side.{Side}
 use Rattle.tile.specs.Shapes.{cells, MadeOf}
 use Rattle.tile.specs.Tiles.{Tile, Survey, problem, heights}
-use Rattle.passes.specs.Soundness.{SoundReading, SoundTies}
+use Rattle.passes.specs.Soundness.{SoundReading, SoundTies, Sound}
 use Rattle.passes.specs.Writing.{weights}
 use Rattle.filter.specs.declared.states.Draft.{Draft}
 use Rattle.filter.specs.declared.states.Level.{Level}
@@ -65,11 +65,12 @@ SurveyChecked rows columns top records xs entries greatest Left Rest =
 
 -- ---- surveying and solving
 
--- The samples of the shape s were written into the draft `drafted`, and that was solved: the low ends are the lowest cheapest grid of
+-- The samples of the shape s were written into the draft `drafted`, in which no round was done, and that was solved: the low ends are the lowest cheapest grid of
 -- the samples, and a finished run of their survey led to the records.
 pub record SampledAndSolved (rule : Rule) (leaves : Shape → Tile → Tile → Type 0) (s : Shape) (y : Survey) (answered : Level) (t' : Tile) : Type 0 where
   pub drafted : Tile
   pub recorded : Recorded s y drafted
+  pub undone : Sound s 0 drafted
   pub solved : Solved rule leaves s drafted answered t'
   pub lowest_cheapest : LowestCheapestGrid (problem rule s y) (heights t')
   pub run : FinishedRun rule s y answered (take (cells s) t')

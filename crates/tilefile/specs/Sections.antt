@@ -1,12 +1,12 @@
 -- The four sections of a file, each by its checks in file order. A section begins at the place p of the file f with its count.
 use Rattle.std.specs.Prelude.{◌≡◌, ℕ, ◌+◌, ◌*◌, ◌≤◌, List, length}
-use Rattle.limits.specs.Limits.{most_rows}
 use Rattle.limits.specs.Checking.{CheckedBy, EachChecked}
 use Rattle.tile.specs.declared.shape.Shape.{Shape}
 use Rattle.tile.specs.declared.side.Side.{Side}
-use Rattle.tile.specs.Shapes.{cells, Ranged}
+use Rattle.tile.specs.Shapes.{cells}
 use Rattle.passes.specs.Soundness.{SoundReading, SoundTies}
 use Rattle.passes.specs.Writing.{weights}
+use Rattle.filter.specs.Checks.{StartCheckedBy}
 use Rattle.tilefile.specs.declared.fault.Section.{Section}
 use Rattle.tilefile.specs.declared.fault.Section.TheVariants as section
 use Rattle.tilefile.specs.declared.fault.EntryFlaw.{EntryFlaw}
@@ -60,9 +60,9 @@ columns_at f p = number_at f (p + 4)
 abbrev pub top_at : List ℕ → ℕ → ℕ
 top_at f p = number_at f (p + 6)
 
--- rows, columns and top in their ranges, and a record for each cell
+-- the checks of start, whose refusal is what is wrong with the entry
 abbrev pub StartChecked : (rows columns top records : ℕ) → (EntryFlaw → Type 0) → Type 0 → Type 0
-StartChecked rows columns top records Left Rest = EntryChecked 1 Range (Ranged most_rows rows columns top) Left (EntryChecked 2 FewRecords (rows * columns ≤ records) Left Rest)
+StartChecked = StartCheckedBy entry_number Range FewRecords
 
 abbrev pub ShapeChecked : List ℕ → (p records : ℕ) → (Fault → Type 0) → Type 0 → Type 0
 ShapeChecked f p records Left Rest = CountChecked f section.Shape p 3 Left (WholeChecked f section.Shape (p + 2) 6 Left (StartChecked (rows_at f p) (columns_at f p) (top_at f p) records (at_entry Left section.Shape (p + 2)) Rest))

@@ -4,6 +4,7 @@ ghost use Rattle.tilefile.specs.Faults.{section_number, entry_number, flaw_numbe
 
 use std::error::Error;
 use std::fmt;
+use tile::ShapeError;
 
 /// The sections of a file, in their order.
 #[derive(Clone, Copy, PartialEq, Eq, Debug)]
@@ -42,6 +43,16 @@ impl EntryFlaw {
         ensures { result ≡ entry_number self }
     {
         self as u8
+    }
+}
+
+impl From<ShapeError> for EntryFlaw {
+    ghost use Rattle.tilefile.specs.declared.fault.EntryFlaw.TheVariants.{Range};
+
+    ghost from_gives = { λ _ why. why ≡ Range };
+
+    fn from(_error: ShapeError) -> EntryFlaw {
+        EntryFlaw::Range
     }
 }
 

@@ -3,6 +3,7 @@ ghost use Rattle.std.specs.Prelude.{◌≡◌, ◌⊎◌, ℕ, ◌<◌, ◌↔�
 ghost use Rattle.theory.specs.Sets.{SmallestCheapestSet};
 ghost use Rattle.tile.specs.Shapes.{cells};
 ghost use Rattle.flow.specs.Networks.{network, charges, marks};
+ghost use Rattle.flow.specs.Points.{FourPoints};
 ghost use Rattle.trial.specs.Cuts.{MayBeCut, LeftUncut};
 
 use crate::uncut::Uncut;
@@ -24,8 +25,8 @@ fn check(shape: Shape, tile: &[Cell], entries: usize) -> Result<(), Uncut>
     Ok(())
 }
 
-/// Cuts two copies of a tile, one by each maker. Checks the first copy before the second, and cuts none unless both may be cut. On
-/// equal copies the two makers mark the same cells.
+/// Cuts two copies of a tile, one by each maker. Checks the first copy before the second, and cuts none unless both may be cut. Both
+/// copies keep the four points, and on equal copies the two makers mark the same cells.
 pub fn cut_both(
     shape: Shape,
     first: &mut [Cell],
@@ -36,6 +37,7 @@ pub fn cut_both(
     ensures accepted { MayBeCut shape first.old (length steps.old) → MayBeCut shape second.old (length numbers.old) → IsOk result }
     ensures why { IfErr result (λ why. LeftUncut shape first.old (length steps.old) why ⊎ (MayBeCut shape first.old (length steps.old) × LeftUncut shape second.old (length numbers.old) why)) }
     ensures uncut { OnErr result ((first.new ≡ first.old) × (second.new ≡ second.old)) }
+    ensures points { OnOk result (FourPoints shape first.old first.new × FourPoints shape second.old second.new) }
     ensures alike { OnOk result (first.old ≡ second.old → (u : ℕ) → u < cells shape → marks first.new u ≡ marks second.new u) }
     ensures by_paths { OnOk result (SmallestCheapestSet (network shape first.old) (charges first.old) (marks first.new)) }
     ensures by_ranks { OnOk result (SmallestCheapestSet (network shape second.old) (charges second.old) (marks second.new)) }

@@ -79,10 +79,10 @@ impl<'a> Reader<'a> {
             u16::from_be_bytes([t1, t0]),
             records,
         )
-        .map_err(|flaw| Fault {
+        .map_err(|why| Fault {
             section: Section::Shape,
             place,
-            flaw: Flaw::Entry(flaw),
+            flaw: Flaw::Entry(why),
         })?;
         Ok((shape, self.rest()))
     }
@@ -199,9 +199,7 @@ impl<'a> Reader<'a> {
 fn asked_shape(rows: u16, columns: u16, top: u16, records: usize) -> Result<Shape, EntryFlaw>
     ensures { StartChecked rows columns top records (λ e. result ≡ Err e) (IsOkAnd result (λ s. MadeOf most_rows rows columns top s)) }
 {
-    let Ok(shape) = Shape::new(rows.into(), columns.into(), top) else {
-        return Err(EntryFlaw::Range);
-    };
+    let shape = Shape::new(rows.into(), columns.into(), top)?;
     if records < shape.cells() {
         return Err(EntryFlaw::FewRecords);
     }

@@ -1,5 +1,5 @@
-use Rattle.report.proofs.ByNumbers.{texts, solutions}
+use Rattle.report.proofs.ByNumbers.{texts, every_height, solutions}
 use Rattle.report.proofs.examples.examples.Goals as goal
 
 pub returns : goal.returns
-returns c = record { texts = texts; solutions = solutions }
+returns c = record { texts = texts; heights = every_height; solutions = solutions }

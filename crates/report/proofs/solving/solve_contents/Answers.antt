@@ -3,7 +3,8 @@ use Rattle.theory.specs.Grids.{energy}
 use Rattle.tile.specs.Halving.{RoundsDue}
 use Rattle.tile.specs.Tiles.{problem, heights}
 use Rattle.tilefile.specs.Contents.{contents_survey}
-use Rattle.report.proofs.Solutions.{SolvedDraft, solved_after, lowest, cost_of, records_solved, past_kept, is_ok, same_ok, ok_and, value}
+use Rattle.solve.proofs.Steps.{is_ok}
+use Rattle.report.proofs.Solutions.{SolvedDraft, solved_after, lowest, cost_of, records_solved, past_kept, same_ok, ok_and, value}
 use Rattle.report.proofs.solving.solve_contents.Goals as goal
 
 pub unwrap-level-requires : goal.unwrap-level-requires

@@ -9,5 +9,5 @@ pub loop-round-preserved : goal.loop-round-preserved
 loop-round-preserved g c =
     let l = c.loop-round in
     let k = c.do_round-state.ensures in
-    one_far (g.P.PriceRule.rule c.args.rule.now) (g.M.CutMaker.leaves c.args.maker.now) c.args.rounding c.args.tile.now c.args.due (length c.args.entries.now) l._round l.state l.tile c.requires l.invariant
-    c.do_round-state.result c.do_round-state.new.tile k.kept k.does
+    one_far (g.P.PriceRule.rule c.args.rule.now) (g.M.CutMaker.leaves c.args.maker.now) c.args.rounding c.args.tile.now l._round l.state l.tile c.do_round-state.result c.do_round-state.new.tile
+    l.invariant k.kept k.does

@@ -3,7 +3,8 @@
 
 The rows stand in three places: here, in the statement that `worked_tiles_are_right` proves (crates/cases/specs/Worked.antt), and in
 the tests that run them through the calls (crates/cases/src/worked_tiles.rt). A row that was replaced, changed or left out in one of them is
-named, and the script ends with status 1.
+named, and so is a function with rows that is no test, and a line that is missing of those that make the rows mean something (HELD); then
+the script ends with status 1.
 """
 
 import re
@@ -27,6 +28,16 @@ ROWS = {
     "corner_of_class_2": ("absolute", 1, 2, 2, 1, [1, 0, 0, 0], [2, 1, 1, 1], [1, 0, 1], [1, 1], [1, 0, 0, 0], 2),
     "leaning_pair_of_classes_2_and_1": ("leaning", 10, 1, 2, 10, [10, 2], [2, 1], [4], [], [2, 2], 24),
 }
+
+# What has to stand, line for line, and in which file.
+HELD = [
+    ("src/lib.rt", "#[cfg(test)]\nmod worked_tiles;"),
+    ("src/lib.rt", "pub fn worked_tiles_are_right()\n    ensures { WorkedTilesAreRight }"),
+    ("specs/Cases.antt", "  pub lowest_cheapest : LowestCheapestGrid (posed c) (height c.heights)"),
+    ("specs/Cases.antt", "  pub energy_of_it : energy (posed c) (height c.heights) ≡ c.energy"),
+    ("src/running.rt", "        assert_eq!(rt; level.height(tile, at / columns, at % columns)?, *height);"),
+    ("src/running.rt", "    assert_eq!(rt; level.cost(tile, rule)?, worked.energy);"),
+]
 
 
 def shapes():
@@ -62,29 +73,35 @@ def proved():
 
 
 def run():
-    """The rows of the tests."""
+    """The functions with rows, each with the line above it and its rows."""
     text = (CASES / "src/worked_tiles.rt").read_text(encoding="utf-8")
     call = re.compile(
         r"check_worked\( &rt, &(\w+)::new\((\d+)\)\?, &Worked \{ rows: (\d+), columns: (\d+), top: (\d+), readings: &\[([^]]*)\], "
         r"classes: &\[([^]]*)\], right: &\[([^]]*)\], down: &\[([^]]*)\], heights: &\[([^]]*)\], energy: (\d+), \}, \)"
     )
-    return [
-        (rule.lower(), int(greatest), int(rows), int(columns), int(top), *map(numbers, lists), int(energy))
-        for rule, greatest, rows, columns, top, *lists, energy in call.findall(" ".join(text.split()))
-    ]
+    functions = []
+    for above, name, body in re.findall(r"^([^\n]*)\nfn (\w+)(.*?)^\}$", text, re.M | re.S):
+        found = [
+            (rule.lower(), int(greatest), int(rows), int(columns), int(top), *map(numbers, lists), int(energy))
+            for rule, greatest, rows, columns, top, *lists, energy in call.findall(" ".join(body.split()))
+        ]
+        if found:
+            functions.append((above, name, found))
+    return functions
 
 
 def main():
-    in_statement, in_tests = proved(), run()
-    faults = []
+    in_statement, functions = proved(), run()
+    in_tests = [row for _, _, rows in functions for row in rows]
+    faults = [f"{name}: has rows, and no #[test] right above it" for above, name, _ in functions if above != "#[test]"]
     for name, row in ROWS.items():
         if in_statement.get(name) != row:
             faults.append(f"{name}: the statement has {in_statement.get(name)}, and not {row}")
         if row not in in_tests:
             faults.append(f"{name}: no test runs {row}")
-    library = (CASES / "src/lib.rt").read_text(encoding="utf-8")
-    if not re.search(r"pub fn worked_tiles_are_right\(\)\s+ensures \{ WorkedTilesAreRight \}", library):
-        faults.append("worked_tiles_are_right no longer ensures WorkedTilesAreRight")
+    for place, line in HELD:
+        if f"\n{line}\n" not in (CASES / place).read_text(encoding="utf-8"):
+            faults.append(f"{place}: this is missing: {line}")
     for fault in faults:
         print(fault, file=sys.stderr)
     if not faults:

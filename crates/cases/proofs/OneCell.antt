@@ -14,7 +14,9 @@ use Rattle.filter.specs.declared.states.Level.{Level}
 use Rattle.filter.specs.declared.answers.Refused.{Refused}
 use Rattle.filter.specs.Calls.{Started, StartDoes, SurveyKept}
 use Rattle.filter.specs.Runs.{surveyed, Begins, Lent, Run, draft}
-use Rattle.solve.specs.Solving.{PastKept, FinishedRun, SolvesRuns}
+use Rattle.filter.proofs.Keeps.{every_run}
+use Rattle.filter.proofs.RunsKept.{sound_slice}
+use Rattle.solve.specs.Solving.{PastKept, HalvedTimes, Solved, FinishedRun, SolveDoes, SolvesRuns}
 use Rattle.cases.specs.OneCell.{OneCellStarted, OneCellSolved}
 
 -- such a tile has one cell
@@ -62,11 +64,23 @@ pub ends_ok : {E : Type 0} (answer : Result Level E) (P : Level → Type 0) → 
 ends_ok (Ok l) P p = refl
 ends_ok (Err e) P p = absurd p
 
-pub one_solved : (rule : Rule) (d : Draft) (t : Tile) (answer : Result Level (Refused Draft)) (t' : Tile) (l : Level) → OneCellStarted d t →
-    IsOkAnd answer (λ l. FinishedRun rule d.shape (surveyed []) l (take (cells d.shape) t')) → answer ≡ Ok l → OneCellSolved rule l t'
-one_solved rule d t answer t' l s ends e = record {
+-- the rounds are those of the maker
+one_rounds : (rule : Rule) → Lawful rule → (leaves : Shape → Tile → Tile → Type 0) (d : Draft) (t : Tile) (n : ℕ) (answer : Result Level (Refused Draft)) (t' : Tile) (l : Level) → OneCellStarted d t → 1 ≤ n →
+    SolveDoes rule leaves d t n answer t' → answer ≡ Ok l → HalvedTimes rule leaves d.shape l.done t t'
+one_rounds rule lawful leaves d t n answer t' l s room does answers =
+    let e : cells d.shape ≡ 1 = one d.shape s.made in
+    let solved : IsOkAnd answer (λ m. Solved rule leaves d.shape t m t') =
+    surely (omega (arith, s.made.same_top, lawful.level_least))
+    (surely (omega (arith, e)) (surely (sound_slice every_run rule lawful d.shape [] (draft d) t (by_cells d t rule s)) (surely (omega (arith, e, s.whole)) does))) in
+    let there : Solved rule leaves d.shape t l t' = subst (λ (z : Result Level (Refused Draft)). IsOkAnd z (λ m. Solved rule leaves d.shape t m t')) answers solved in
+    there.rounds
+
+pub one_solved : (rule : Rule) → Lawful rule → (leaves : Shape → Tile → Tile → Type 0) (d : Draft) (t : Tile) (n : ℕ) (answer : Result Level (Refused Draft)) (t' : Tile) (l : Level) → OneCellStarted d t → 1 ≤ n →
+    SolveDoes rule leaves d t n answer t' → IsOkAnd answer (λ l. FinishedRun rule d.shape (surveyed []) l (take (cells d.shape) t')) → answer ≡ Ok l → OneCellSolved rule leaves t l t'
+one_solved rule lawful leaves d t n answer t' l s room does ends e = record {
   shape = d.shape;
   made = s.made;
+  rounds = one_rounds rule lawful leaves d t n answer t' l s room does e;
   finished_run =
       subst (λ (k : ℕ). FinishedRun rule d.shape (surveyed []) l (take k t')) (one d.shape s.made)
       (subst (λ (z : Result Level (Refused Draft)). IsOkAnd z (λ m. FinishedRun rule d.shape (surveyed []) m (take (cells d.shape) t'))) e ends);

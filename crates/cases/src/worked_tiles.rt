@@ -136,7 +136,11 @@ fn falling_pairs(rt: HostRuntime) -> Result<(), Fail> {
             heights: &[2, 2],
             energy: 8,
         },
-    )?;
+    )
+}
+
+#[test]
+fn falling_pairs_of_classes_2_and_1(rt: HostRuntime) -> Result<(), Fail> {
     check_worked(
         &rt,
         &Leaning::new(10)?,

@@ -24,18 +24,20 @@ fn shapes(rt: HostRuntime) {
     );
 }
 
+// No solution yet.
+const UNSOLVED: Solution = Solution {
+    rows: 0,
+    columns: 0,
+    top: 0,
+    rounds: 0,
+    energy: 0,
+};
+
 #[test]
-fn solutions(rt: HostRuntime) {
+fn refusals(rt: HostRuntime) {
     let mut tile = [Cell::default(); 2];
     let (mut heights, mut entries) = ([0; 2], [0; 2]);
-    let mut solution = Solution {
-        rows: 0,
-        columns: 0,
-        top: 0,
-        rounds: 0,
-        energy: 0,
-    };
-    let mut fault = FaultNumbers::default();
+    let (mut solution, mut fault) = (UNSOLVED, FaultNumbers::default());
     let few_places = yolanthuk_solve_file(
         FILE,
         &mut tile,
@@ -52,6 +54,20 @@ fn solutions(rt: HostRuntime) {
         &mut solution,
         &mut fault,
     );
+    assert_eq!(rt; [few_places, few_entries], [-1, 7]);
+    assert_eq!(rt; fault.number, 7);
+}
+
+#[test]
+fn solutions(rt: HostRuntime) {
+    let mut tile = [Cell::default(); 2];
+    let (mut heights, mut entries) = ([0; 2], [0; 2]);
+    let mut solution = UNSOLVED;
+    // An earlier fault: it stays.
+    let mut fault = FaultNumbers {
+        number: 7,
+        ..FaultNumbers::default()
+    };
     let by_push = yolanthuk_solve_file(
         FILE,
         &mut tile,
@@ -67,7 +83,7 @@ fn solutions(rt: HostRuntime) {
         &mut solution,
         &mut fault,
     );
-    assert_eq!(rt; [few_places, few_entries, by_push, by_paths], [-1, 7, 0, 0]);
+    assert_eq!(rt; [by_push, by_paths], [0, 0]);
     assert_eq!(rt; fault.number, 7);
     assert_eq!(rt;
         (solution.rounds, solution.energy, heights),

@@ -6,5 +6,6 @@ returns c =
     let s = begun c.args.tile.now c.start.result c.start.new.tile c.requires c.start.ensures.does in
     record {
       past = begun_past c.args.tile.now c.start.result c.start.new.tile c.requires s;
-      started = one_started c.args.tile.now c.start.result c.start.new.tile c.unwrap.result c.requires s c.start.ensures.begins c.unwrap.ensures;
+      writes = s.writes;
+      begun = one_started c.args.tile.now c.start.result c.start.new.tile c.unwrap.result c.requires s c.start.ensures.begins c.unwrap.ensures;
     }

@@ -16,7 +16,7 @@ import sys
 
 TOP = pathlib.Path(__file__).resolve().parent.parent
 CRATES = TOP / "crates"
-EARLIER = {"CHANGES.md"}
+EARLIER = {"CHANGES.md", "LOOK-BACK.md"}
 
 # A file by its folder at the top; a star stands for any name.
 FILE = re.compile(r"(?:docs|tools|samples|crates|bench|include)/[\w./*-]*[\w*]")

@@ -14,3 +14,11 @@ pub struct Flows<'a> {
     pub columns: usize,
     pub ghost sound: { Admissible columns tile.now },
 }
+
+/// The same, to be read alone: what only asks needs no more than a shared borrow of the records.
+#[derive(Clone, Copy)]
+pub struct FlowsView<'a> {
+    pub tile: &'a [Cell],
+    pub columns: usize,
+    pub ghost sound: { Admissible columns tile.now },
+}

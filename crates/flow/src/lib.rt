@@ -9,5 +9,5 @@ pub mod maker;
 
 pub use chart::{Chart, is_cuttable};
 pub use direction::Direction;
-pub use flows::Flows;
+pub use flows::{Flows, FlowsView};
 pub use maker::{CutMaker, run_cut};

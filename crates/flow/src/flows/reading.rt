@@ -7,7 +7,7 @@ ghost use Rattle.tile.specs.Tiles.{cell};
 ghost use Rattle.flow.specs.Sides.{remains, room, side_of, flow_out, found_beside, live_pair};
 
 use crate::direction::Direction;
-use crate::flows::Flows;
+use crate::flows::{Flows, FlowsView};
 use tile::Side;
 
 // What leaves, less what enters.
@@ -21,14 +21,14 @@ fn balance(out: i32, left: i32, up: i32) -> i32
     out - left - up
 }
 
-impl<'a> Flows<'a> {
+impl<'a> FlowsView<'a> {
     // What enters a cell over the tie that the record before it stores on a side; 0 where there is none.
     fn entering(&self, u: usize, side: Side) -> i32
         requires { u < length self.now.tile.now }
         ensures value { result ≡ (if nat_le (offset self.now.columns side) u then stored_flow (cell self.now.tile.now (u - offset self.now.columns side)) side else pos 0) }
         ensures few { unsigned_abs result ≤ most_tie }
     {
-        let (tile, step) = (&*self.tile, side.offset(self.columns));
+        let (tile, step) = (self.tile, side.offset(self.columns));
         if u >= step {
             tile[u - step].flow(side)
         } else {
@@ -94,7 +94,7 @@ impl<'a> Flows<'a> {
         ensures value { result ≡ (if live_pair self.now.tile.now a b then pos (stored_tie (cell self.now.tile.now a) (side_of toward)) -ℤ flow_out toward (stored_flow (cell self.now.tile.now a) (side_of toward)) else pos 0) }
         ensures few { unsigned_abs result ≤ 2 * most_tie }
     {
-        let (tile, side) = (&*self.tile, toward.side());
+        let (tile, side) = (self.tile, toward.side());
         if tile[a].shares_bracket(&tile[b]) {
             i32::from(tile[a].tie(side)) - toward.flow_out(tile[a].flow(side))
         } else {
@@ -120,7 +120,7 @@ impl<'a> Flows<'a> {
         requires { (a < length self.now.tile.now) × (b < length self.now.tile.now) }
         ensures { result ≡ (if live_pair self.now.tile.now a b then int_lt (flow_out toward (stored_flow (cell self.now.tile.now a) (side_of toward))) (pos (stored_tie (cell self.now.tile.now a) (side_of toward))) else false) }
     {
-        let (tile, side) = (&*self.tile, toward.side());
+        let (tile, side) = (self.tile, toward.side());
         let live = tile[a].shares_bracket(&tile[b]);
         live & (toward.flow_out(tile[a].flow(side)) < i32::from(tile[a].tie(side)))
     }
@@ -133,5 +133,68 @@ impl<'a> Flows<'a> {
         let beside = self.beside(u, toward);
         let (a, b) = toward.storing_first(u, beside.unwrap_or(u));
         beside.is_some() & self.has_slack(a, b, toward)
+    }
+}
+
+impl<'a> Flows<'a> {
+    // The same flows, to be read.
+    fn view(&self) -> FlowsView<'_>
+        ensures tile { result.tile.now ≡ self.now.tile.now }
+        ensures columns { result.columns ≡ self.now.columns }
+    {
+        FlowsView {
+            tile: &*self.tile,
+            columns: self.columns,
+        }
+    }
+
+    /// The remainder of a cell: its charge, plus what leaves it, minus what enters it.
+    pub fn remainder(&self, u: usize) -> i32
+        requires { u < length self.now.tile.now }
+        ensures value { result ≡ remains self.now.tile.now self.now.columns u }
+        ensures few { unsigned_abs result ≤ most_charge + 4 * most_tie }
+    {
+        self.view().remainder(u)
+    }
+
+    /// Is a cell in deficit?
+    pub fn in_deficit(&self, u: usize) -> bool
+        requires { u < length self.now.tile.now }
+        ensures { result ≡ int_lt (remains self.now.tile.now self.now.columns u) (pos 0) }
+    {
+        self.view().in_deficit(u)
+    }
+
+    /// Is a cell in surplus?
+    pub fn in_surplus(&self, u: usize) -> bool
+        requires { u < length self.now.tile.now }
+        ensures { result ≡ int_lt (pos 0) (remains self.now.tile.now self.now.columns u) }
+    {
+        self.view().in_surplus(u)
+    }
+
+    /// The cell in a direction, where there is a record.
+    pub fn beside(&self, u: usize, toward: Direction) -> Option<usize>
+        requires { u < length self.now.tile.now }
+        ensures { result ≡ found_beside self.now.columns (length self.now.tile.now) toward u }
+    {
+        self.view().beside(u, toward)
+    }
+
+    /// The room of the residual arc out of u in a direction: 0 where there is no tie or it is not live.
+    pub fn room(&self, u: usize, toward: Direction) -> i32
+        requires { u < length self.now.tile.now }
+        ensures value { result ≡ room self.now.tile.now self.now.columns toward u }
+        ensures few { unsigned_abs result ≤ 2 * most_tie }
+    {
+        self.view().room(u, toward)
+    }
+
+    /// Does a residual arc lead out of u in a direction?
+    pub fn is_residual(&self, u: usize, toward: Direction) -> bool
+        requires { u < length self.now.tile.now }
+        ensures { result ≡ int_lt (pos 0) (room self.now.tile.now self.now.columns toward u) }
+    {
+        self.view().is_residual(u, toward)
     }
 }

@@ -9,7 +9,7 @@ use Rattle.tile.specs.Tiles.{Tile, cell}
 use Rattle.flow.specs.declared.direction.Direction.{Direction}
 use Rattle.flow.specs.declared.direction.Direction.TheVariants.{Right, Down, Left, Up}
 use Rattle.flow.specs.Sides.{storing_first, room_back, room, beside, has_beside, side_of, flow_out, live_pair}
-use Rattle.flow.proofs.flows.Flows.is_residual.Goals as goal
+use Rattle.flow.proofs.flows.FlowsView.is_residual.Goals as goal
 
 -- what the tie from a to b takes along it, tested
 abbrev slack_test : Tile → Direction → ℕ → ℕ → Bool

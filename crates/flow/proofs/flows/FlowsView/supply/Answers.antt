@@ -1,7 +1,7 @@
 use Rattle.std.proofs.Common.{arith}
 use Rattle.std.proofs.lemmas.Int.{ints}
 use Rattle.tile.specs.declared.side.Side.TheVariants.{Rightward, Downward}
-use Rattle.flow.proofs.flows.Flows.supply.Goals as goal
+use Rattle.flow.proofs.flows.FlowsView.supply.Goals as goal
 
 pub overflow_add-result : goal.overflow_add-result
 overflow_add-result c =

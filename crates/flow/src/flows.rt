@@ -15,7 +15,7 @@ pub struct Flows<'a> {
     pub ghost sound: { Admissible columns tile.now },
 }
 
-/// The same, to be read alone: what only asks needs no more than a shared borrow of the records.
+/// The same, only to be read: whoever asks needs no more than a shared borrow of the records.
 #[derive(Clone, Copy)]
 pub struct FlowsView<'a> {
     pub tile: &'a [Cell],

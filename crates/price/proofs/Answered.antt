@@ -1,4 +1,4 @@
--- What a rule answers within its ranges, and at most.
+-- What a rule answers within its ranges, and its greatest price.
 use Rattle.std.proofs.Common.{◌≡◌, ℕ, suc, ◌<◌, ◌≤◌, ◌&&◌, true, leb, ltb, pos, ◌-ℤ◌, sym, ◌∙◌, ap₂, inl, inr, arith}
 use Rattle.std.proofs.lemmas.Bool.{cases_Bool, cond-true, and_from, and_parts, leb-true, le-leb, lt-ltb}
 use Rattle.limits.specs.Limits.{most_class, most_price}
@@ -19,7 +19,7 @@ step_priced r v q k e l = ap₂ (λ (x y : ℕ). pos x -ℤ pos y) (priced_is r 
 pub stepped_is : (r : Rule) (v q k : ℕ) → known r.greatest v q ≡ true → k < r.greatest → stepped r v q k ≡ step_of (priced r v q) k
 stepped_is r v q k e l = cond-true (known r.greatest v q && ltb k r.greatest) (step r v q k) (pos 0) (and_from _ _ e (lt-ltb _ _ l)) ∙ sym (step_priced r v q k e l)
 
--- whatever is asked of it, its answer keeps the bound
+-- whatever is asked of a lawful rule, the price that it answers keeps the bound
 pub priced_most : (r : Rule) → Lawful r → (v q k : ℕ) → priced r v q k ≤ most_price
 priced_most r l v q k = elim (cases_Bool (known r.greatest v q && leb k r.greatest)) [
   | inl e ↦
